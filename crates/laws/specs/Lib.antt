@@ -1,1 +1,3 @@
 pub mod Refusals
+pub mod RefusalLaws
+pub mod Each
