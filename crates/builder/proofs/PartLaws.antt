@@ -24,10 +24,6 @@ module _ (xs : List ℕ) (at : ℕ) (r : Record) (h : at + 21 ≤ length xs) whe
       (rw (put-next xs at (bytesOf 8 (r .sequence) ++ (kindByte (r .kind) ∷ []) ++ bytesOf 4 (r .length)) (at + 13) (bytesOf 8 (r .offset)) (simp (length-append, length-bytesOf) (omega arith)) (simp (length-append, length-bytesOf) (omega arith)))
       (simp append-assoc)))
 
-pub length-version : (r : Record) → length (versionBytes r) ≡ 21
-unfolding versionBytes
-length-version r = simp (length-append, length-bytesOf)
-
 -- a new entry's length, count, key and version
 pub entry-put : (xs : List ℕ) (at : ℕ) (key : List ℕ) (r : Record) → at + (29 + length key) ≤ length xs → splice (splice (splice (splice xs at (bytesOf 4 (length key))) (at + 4) (bytesOf 4 1)) (at + 8) key) (at + 8 + length key) (versionBytes r) ≡ splice xs at (entryBytes (newEntry key r))
 unfolding entryBytes versionsBytes
