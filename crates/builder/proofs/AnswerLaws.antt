@@ -1,12 +1,12 @@
 -- The answers of add and set offset and their refusals: what an answer says of the refusal. Assumes nothing.
-use Prim.Native.Nat.{ℕ}
+use Prim.Native.Nat.{ℕ, _-_}
 use mathlib.Core.Path.{_≡_, refl, sym, ap, _∙_}
 use mathlib.Core.Bool.{Bool, true, false, cond}
 use mathlib.Core.List.{List}
 use native.Mathlib.Omega.{arith}
-use borrow.Author.Tests.{eqb-true, eqb-false, eq-eqb, ne-eqb}
+use borrow.Author.Tests.{eqb-true, eqb-false, eq-eqb, ne-eqb, not-false}
 use lib.Dec.{eqb, lit<}
-use Rattle.laws.specs.Refusals.{Numbered, numbered-none, numbered-more}
+use Rattle.laws.specs.Refusals.{None, none-here, none-more, Numbered, numbered-none, numbered-more, none-only}
 use Rattle.records.specs.declared.Kind.{Kind}
 use Rattle.builder.specs.declared.PointBuilder.{PointBuilder}
 use Rattle.builder.specs.declared.Added.{Added}
@@ -79,6 +79,15 @@ module _ (s : PointBuilder) (buffer : List ℕ) (place : ℕ) where
   unfolding setOf
   set-known e =
       picked-yes (setRefusal s buffer place) offset-set.Set (offset-set.Refused (setRefusal s buffer place)) offset-set.Set (λ x. let z : _≡_ {A = ℕ} 0 1 = cc in omega arith) e .0
+
+  none-set : None (setCauses s buffer place) → (fits s buffer ≡ true) × (s .keys ≡ 0 → ⊥) × (place ≡ s .used - 8)
+  unfolding setCauses
+  none-set (none-more f (none-more k (none-more p none-here))) =
+      (not-false (fits s buffer) f, eqb-false (s .keys) 0 k, eqb-true place (s .used - 8) (not-false (eqb place (s .used - 8)) p))
+
+  -- an offset that no cause refuses
+  pub set-passed : setRefusal s buffer place ≡ 0 → (fits s buffer ≡ true) × (s .keys ≡ 0 → ⊥) × (place ≡ s .used - 8)
+  set-passed e = none-set (none-only set-numbered e)
 
   pub set-given : setRefusal s buffer place ≡ 0 → setOf s buffer place ≡ offset-set.Set
   unfolding setOf

@@ -1,39 +1,22 @@
--- The state and the buffer that hold a table: read back from the buffer, and kept by a new key, a continued key and a set offset.
--- Assumes nothing.
-use Prim.Native.Nat.{ℕ, zero, suc, _+_, _-_, _*_, _^_, _≤_, _<_}
-use mathlib.Core.Path.{_≡_, refl, sym, ap, subst, _∙_}
-use mathlib.Core.Bool.{Bool, true, false}
+-- The state and the buffer that hold a table, read back from the buffer. Assumes nothing.
+use Prim.Native.Nat.{ℕ, _+_, _-_, _≤_}
+use mathlib.Core.Path.{_≡_, sym, ap, _∙_}
 use mathlib.Core.List.{List, [], _∷_, _++_, append-assoc}
 use native.Mathlib.Omega.{arith}
-use borrow.Author.Tests.{eqb-true, not-false}
-use lib.Dec.{eqb}
 use lib.ListN.{length, take, drop, length-append, take-append-drop}
-use lib.Seq.{length-take-le, take-at}
-use Rattle.laws.specs.Each.{Each}
-use Rattle.laws.specs.Each.Each.{each-none, each-more}
-use Rattle.words.specs.declared.part.Order.{Order}
-use Rattle.words.specs.declared.part.Order.the-variants.{Less, Equal, Greater}
-use Rattle.words.specs.Field.{le, bytesOf, splice}
-use Rattle.words.specs.Part.{orderOf}
-use Rattle.words.proofs.Laws.{length-bytesOf, length-splice, take-splice-end}
-use Rattle.records.specs.declared.Kind.{Kind}
-use Rattle.records.specs.declared.Kind.the-variants.{Put, Tombstone}
+use lib.Seq.{length-take-le}
 use Rattle.records.specs.declared.Record.{Record}
 use Rattle.records.specs.declared.DataLength.the-variants.{Untested}
-use Rattle.records.specs.Model.{Entry, versionBytes, entryBytes, tableBytes, Rises, rises-one, falls-one}
+use Rattle.records.specs.Model.{Entry, versionBytes, entryBytes, tableBytes}
 use Rattle.records.specs.Places.{keyLength, versionCount, keyAt, nextEntry, sequenceAt}
-use Rattle.records.specs.Rules.{isLess}
-use Rattle.records.specs.Tables.{EntryFits, RecordRules, EntryRules, TableRules}
+use Rattle.records.specs.Tables.{EntryFits, EntryRules, TableRules}
 use Rattle.records.proofs.TableLaws.{entry-fits}
 use Rattle.records.proofs.WriteLaws.{version-size, entry-size, back-sequence, back-head, back-count, back-key, back-next}
 use Rattle.builder.specs.declared.PointBuilder.{PointBuilder}
-use Rattle.builder.specs.State.{emptyBuilder, Last, lastOf, fits}
-use Rattle.builder.specs.Add.{withdrawnWithValue, rises, recordOf, newEntry, nextState, appended}
-use Rattle.builder.specs.Taken.{withOffset}
+use Rattle.builder.specs.State.{lastOf}
 use Rattle.builder.proofs.StateLaws.{Fitting}
-use Rattle.builder.proofs.AddLaws.{Sized, rises-known}
-use Rattle.builder.proofs.ListLaws.{each-last, last-each, falls-on, falls-last, rises-on, rises-last}
-use Rattle.builder.proofs.BodyLaws.{entry, table-last, body, body-table, body-more, body-length, body-count, version-offset}
+use Rattle.builder.proofs.ListLaws.{last-each}
+use Rattle.builder.proofs.BodyLaws.{entry, table-last, body, body-table, body-more}
 
 -- a table with a last record
 abbrev pub ending : List Entry → List ℕ → List Record → Record → List Entry
@@ -49,9 +32,6 @@ pub record Standing (s : PointBuilder) (buffer : List ℕ) (front : List Entry) 
   pub rules : TableRules Untested (ending front key older newest)
 
 module _ (s : PointBuilder) (buffer : List ℕ) (front : List Entry) (key : List ℕ) (older : List Record) (newest : Record) (st : Standing s buffer front key older newest) where
-  versions : List Record
-  versions = older ++ (newest ∷ [])
-
   pub entry-rules : EntryRules Untested (entry key (older ++ (newest ∷ [])))
   entry-rules = last-each front (entry key (older ++ (newest ∷ []))) (st .rules .entries) .1
 
@@ -92,17 +72,17 @@ module _ (s : PointBuilder) (buffer : List ℕ) (front : List Entry) (key : List
       ∙ length-append (tableBytes front) (entryBytes (entry key (older ++ (newest ∷ [])))) ∙ sym used-is
 
   -- the last version's bytes are the last of those used
-  before : List ℕ
+  unfoldable pub before : List ℕ
   before = body front key older (length (older ++ (newest ∷ [])))
 
   parted : take (s .used) buffer ≡ before ++ versionBytes newest
   unfolding before
   parted = st .bytes ∙ body-table front key (older ++ (newest ∷ [])) ∙ body-more front key older newest (length (older ++ (newest ∷ [])))
 
-  behind : buffer ≡ (before ++ versionBytes newest) ++ drop (s .used) buffer
+  pub behind : buffer ≡ (before ++ versionBytes newest) ++ drop (s .used) buffer
   behind = sym (take-append-drop (s .used) buffer) ∙ ap (λ (l : List ℕ). l ++ drop (s .used) buffer) parted
 
-  before-length : s .used ≡ length before + 21
+  pub before-length : s .used ≡ length before + 21
   before-length =
       sym (length-take-le (s .used) buffer (st .inside)) ∙ ap length parted ∙ length-append before (versionBytes newest) ∙ ap (λ (n : ℕ). length before + n) (version-size newest)
 

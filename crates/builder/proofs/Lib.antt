@@ -5,3 +5,6 @@ pub mod ListLaws
 pub mod BodyLaws
 pub mod AnswerLaws
 pub mod HeldLaws
+pub mod StepLaws
+pub mod TakenTheorems
+pub mod Answers
