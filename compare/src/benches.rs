@@ -1,0 +1,75 @@
+//! The timings: one file a call, one line of `ALL` each. Medians of rounds in which ours and the Rust's runs take turns.
+mod hash;
+mod mix;
+
+use std::hint::black_box;
+use std::time::Instant;
+
+/// One call, timed at several sizes.
+pub trait Bench {
+    /// What a run works on, with what the last run left.
+    type Input;
+    const NAME: &'static str;
+    const SIZES: &'static [usize];
+    /// Whether a run leaves the input fit for the next one; if not, each is prepared and timed alone.
+    const REPEATS: bool = true;
+    fn input(size: usize) -> Self::Input;
+    /// Before each timed row of runs; not timed.
+    fn prepare(_: &mut Self::Input) {}
+    fn ours(input: &mut Self::Input);
+    fn theirs(input: &mut Self::Input);
+}
+
+pub struct Entry {
+    name: &'static str,
+    run: fn(),
+}
+const fn entry<B: Bench>() -> Entry {
+    Entry { name: B::NAME, run: run::<B> }
+}
+
+pub const ALL: &[Entry] = &[entry::<mix::Mix>(), entry::<hash::Hash>()];
+
+const ROUNDS: usize = 31;
+/// How long one timed row of runs should take, in ns.
+const ROW: f64 = 1e6;
+
+/// The time of `count` runs, in ns for each.
+fn time<B: Bench>(input: &mut B::Input, count: u64, run: fn(&mut B::Input)) -> f64 {
+    B::prepare(input);
+    let start = Instant::now();
+    for _ in 0..count {
+        run(black_box(input));
+    }
+    start.elapsed().as_nanos() as f64 / count as f64
+}
+
+fn median(mut times: Vec<f64>) -> f64 {
+    times.sort_by(f64::total_cmp);
+    times[times.len() / 2]
+}
+
+fn run<B: Bench>() {
+    for &size in B::SIZES {
+        let mut input = B::input(size);
+        let mut count = 1;
+        while B::REPEATS && time::<B>(&mut input, count, B::theirs) * (count as f64) < ROW {
+            count *= 2;
+        }
+        let (mut ours, mut theirs) = (Vec::new(), Vec::new());
+        for _ in 0..ROUNDS {
+            ours.push(time::<B>(&mut input, count, B::ours));
+            theirs.push(time::<B>(&mut input, count, B::theirs));
+        }
+        let (o, t) = (median(ours), median(theirs));
+        println!("{:<24} {:>9} {:>14.2} {:>14.2} {:>8.2}", B::NAME, size, o, t, o / t);
+    }
+}
+
+/// Prints the table: nanoseconds a call, and ours by the Rust's.
+pub fn run_all(only: &str) -> bool {
+    println!("{:<24} {:>9} {:>14} {:>14} {:>8}", "call", "size", "ours ns", "Rust ns", "ratio");
+    ALL.iter().filter(|b| b.name.contains(only)).for_each(|b| (b.run)());
+    println!("medians of {ROUNDS} rounds in turn; sizes are bytes or keys");
+    true
+}
