@@ -6,10 +6,12 @@ given=$(cd "$1/src" && pwd)
 here=$(cd "$(dirname "$0")" && pwd)
 mkdir -p "$2/src/sstable/point" "$2/probes"
 out=$(cd "$2" && pwd)
+: > "$out/.made"
 
 # Standard input into a file of OUT, if it differs from what stands there.
 put() {
     cat > "$out/.new"
+    echo "$1" >> "$out/.made"
     if ! cmp -s "$out/.new" "$out/$1"; then mv "$out/.new" "$out/$1"; fi
 }
 # The part of a given file from the line that fits $2 to the next that fits $3. It has to be there.
@@ -77,4 +79,6 @@ fn main() {
 T
 
 for f in point filter mod; do diff -u "$given/sstable/$f.rs" "$out/src/sstable/$f.rs" || true; done | put EDITS.diff
-rm -f "$out/.new" "$out/.cut"
+# What an earlier run left and this one did not make.
+(cd "$out" && find src probes -type f) | grep -vxF -f "$out/.made" | while read -r f; do rm "$out/$f"; done
+rm -f "$out/.new" "$out/.cut" "$out/.made"

@@ -30,9 +30,12 @@ const fn entry<B: Bench>() -> Entry {
 
 pub const ALL: &[Entry] = &[entry::<mix::Mix>(), entry::<hash::Hash>()];
 
-const ROUNDS: usize = 31;
-/// How long one timed row of runs should take, in ns.
-const ROW: f64 = 1e6;
+/// How long one timed row of runs should take, in ns: short, so that few rows are interrupted.
+const ROW: f64 = 1e5;
+/// How long the rows of one side may take together, in ns, and how many there are at least and at most.
+const ALL_ROWS: f64 = 2e8;
+const LEAST: usize = 15;
+const MOST: usize = 501;
 
 /// The time of `count` runs, in ns for each.
 fn time<B: Bench>(input: &mut B::Input, count: u64, run: fn(&mut B::Input)) -> f64 {
@@ -44,6 +47,18 @@ fn time<B: Bench>(input: &mut B::Input, count: u64, run: fn(&mut B::Input)) -> f
     start.elapsed().as_nanos() as f64 / count as f64
 }
 
+/// How many runs fill a timed row, by the least of a few times (another program may have taken the rest).
+fn count<B: Bench>(input: &mut B::Input) -> u64 {
+    let mut count = 1;
+    loop {
+        let least = (0..5).map(|_| time::<B>(input, count, B::theirs)).fold(f64::INFINITY, f64::min);
+        if least * count as f64 >= ROW {
+            return count;
+        }
+        count *= 2;
+    }
+}
+
 fn median(mut times: Vec<f64>) -> f64 {
     times.sort_by(f64::total_cmp);
     times[times.len() / 2]
@@ -52,12 +67,10 @@ fn median(mut times: Vec<f64>) -> f64 {
 fn run<B: Bench>() {
     for &size in B::SIZES {
         let mut input = B::input(size);
-        let mut count = 1;
-        while B::REPEATS && time::<B>(&mut input, count, B::theirs) * (count as f64) < ROW {
-            count *= 2;
-        }
+        let count = if B::REPEATS { count::<B>(&mut input) } else { 1 };
+        let row = time::<B>(&mut input, count, B::theirs) * count as f64;
         let (mut ours, mut theirs) = (Vec::new(), Vec::new());
-        for _ in 0..ROUNDS {
+        for _ in 0..((ALL_ROWS / row) as usize).clamp(LEAST, MOST) {
             ours.push(time::<B>(&mut input, count, B::ours));
             theirs.push(time::<B>(&mut input, count, B::theirs));
         }
@@ -70,6 +83,6 @@ fn run<B: Bench>() {
 pub fn run_all(only: &str) -> bool {
     println!("{:<24} {:>9} {:>14} {:>14} {:>8}", "call", "size", "ours ns", "Rust ns", "ratio");
     ALL.iter().filter(|b| b.name.contains(only)).for_each(|b| (b.run)());
-    println!("medians of {ROUNDS} rounds in turn; sizes are bytes or keys");
+    println!("medians of {LEAST} to {MOST} rounds in turn; sizes are bytes or keys");
     true
 }

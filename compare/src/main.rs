@@ -1,4 +1,4 @@
-//! The Rattle code beside the Rust. `compare SEED CASES [CALL]`, `bench [CALL]`, `splits`: see README.md.
+//! The Rattle code beside the Rust. `compare SEED CASES [CALL]`, `bench [CALL]`, `splits`, `oracle COMMAND ..`: see README.md.
 mod benches;
 mod calls;
 mod ours;
@@ -37,6 +37,10 @@ fn main() -> ExitCode {
         "compare" => compare(number(args.get(2), 1), number(args.get(3), 100_000), only(4)),
         "bench" => benches::run_all(only(2)),
         "splits" => stored::write(),
+        "oracle" => {
+            oracle::command::run(&args[2..]);
+            true
+        }
         other => {
             eprintln!("unknown command {other}");
             false

@@ -5,9 +5,10 @@ use std::path::{Path, PathBuf};
 /// The program's crate, and its ops in VECTORS.md. An op that sets what later ops work on goes to each program that needs it.
 const SPLITS: &[(&str, &[u8])] = &[("mixing_vectors", &[0x01, 0x02, 0x03])];
 
-/// The file that is split: `oracle vectors 1 FILE 1`.
+/// The file that is split: `oracle vectors 1 FILE 1`, and the key hash of its bytes with seed 0.
 const SEED: u64 = 1;
 const SCALE: u64 = 1;
+const DIGEST: u64 = 0xc730_1944_56cc_caae;
 
 /// A file's cases, each with its op first.
 fn cases(file: &[u8]) -> Vec<&[u8]> {
@@ -45,6 +46,12 @@ pub fn check() -> Vec<Line> {
         fresh = oracle::vectors::make(SEED, SCALE);
         let all = cases(&fresh);
         line.cases = all.len() as u64;
+        let digest = oracle::rp::hash(&fresh, 0);
+        if digest != DIGEST {
+            line.differ = 1;
+            line.notes
+                .push(format!("another file than the one recorded: {} bytes, digest {digest:#018x}", fresh.len()));
+        }
         let idle = all.iter().filter(|c| SPLITS.iter().all(|s| !s.1.contains(&c[0]))).count();
         if idle > 0 {
             line.notes.push(format!("{idle} of them are of ops that no program replays yet"));

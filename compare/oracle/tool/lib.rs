@@ -9,6 +9,7 @@ mod sstable;
 mod xxh3;
 
 pub mod check;
+pub mod command;
 pub mod hunt;
 pub mod lines;
 pub mod paper;

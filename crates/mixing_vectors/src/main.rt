@@ -24,13 +24,13 @@ fn mix_agrees(p: &[u8]) -> bool {
 fn hash_agrees(p: &[u8]) -> bool {
     let h = mixing::hash(vectors::bytes_in(p, 8), vectors::u64_in(p, 0));
     let end = vectors::bytes_end(p, 8);
-    if vectors::end_in(p, end, 10) != p.len() {
+    if p.len() - end != 10 {
         return false;
     }
     if h != vectors::u64_in(p, end) {
         return false;
     }
-    mixing::fingerprint(h) == vectors::u16_in(p, vectors::end_in(p, end, 8))
+    mixing::fingerprint(h) == vectors::u16_in(p, end + 8)
 }
 
 // 03: u64 h, u32 pilot, u32 n, u32 b -> u32 bucket, u32 position.
@@ -102,7 +102,7 @@ fn replay(file: &[u8]) -> Tally {
 }
 
 fn main() {
-    let mut buffer = io::large_buffer();
+    let mut buffer = vectors::buffer();
     let n = io::read_full(0, &mut buffer);
     let tally = replay(&buffer[..n]);
     vectors::report(b"mix", tally.mix);

@@ -188,6 +188,13 @@ impl Count {
     }
 }
 
+// Room for a stored file on the stack. A longer file reads as damaged.
+pub fn buffer() -> [u8; 262144]
+    ensures { λ r. ⌜ 262144 ≡ length r ⌝ }
+{
+    [0; 262144]
+}
+
 // Prints one line: `NAME N cases, M differ`.
 pub fn report(name: &[u8], count: Count) {
     io::write_all(1, name);
