@@ -1,14 +1,13 @@
 -- The head of an entry, a test at a time. Assumes nothing.
 use Prim.Native.Nat.{ℕ, _+_, _*_, _<_, _≤_}
 use native.Mathlib.Omega.{arith}
-use mathlib.Core.Path.{_≡_, sym}
+use mathlib.Core.Path.{_≡_}
 use mathlib.Core.List.{List}
-use mathlib.Core.Logic.{_⊎_, inl, inr, ⊎-elim}
 use lib.ListN.{length}
 use borrow.Author.Tests.{lt-ltb, le-ltb}
 use Rattle.records.specs.declared.cursor.HeadRead.the-variants.{At, Outside}
 use Rattle.records.specs.Places.{keyLength, versionCount, firstVersion}
-use Rattle.records.specs.Cursor.{headOf, headAt}
+use Rattle.records.specs.Cursor.{headAt}
 
 module _ (bytes : List ℕ) (p : ℕ) where
   pub head-short : length bytes < p + 8 → Outside ≡ headAt bytes p

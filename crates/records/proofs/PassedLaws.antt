@@ -1,21 +1,21 @@
 -- The keys that pass in a row, and where they stand; the walk passes such a row, and any such row is passed by the walk. Assumes nothing.
-use Prim.Native.Nat.{ℕ, zero, suc, _+_, _-_, _*_, _<_, _≤_}
-use native.Mathlib.Nat.{not-suc-le-zero}
+use Prim.Native.Nat.{ℕ, zero, suc, _<_, _≤_}
+use native.Mathlib.Nat.{not-suc-le-zero, eq-or-lt-of-le}
 use native.Mathlib.Omega.{arith}
-use mathlib.Core.Path.{_≡_, refl, sym, ap, _∙_}
+use mathlib.Core.Path.{_≡_, refl, sym, ap}
 use mathlib.Core.List.{List}
 use mathlib.Core.Bool.{Bool, true, false, cond}
-use mathlib.Core.Logic.{_⊎_, inl, inr, ⊎-elim}
+use mathlib.Core.Logic.{⊎-elim}
 use lib.ListN.{length, getD}
-use lib.Dec.{ltb, eqb}
-use borrow.Author.Tests.{eqb-true, eqb-false, eq-eqb, ne-eqb}
+use lib.Dec.{eqb}
+use borrow.Author.Tests.{eqb-true, eqb-false}
+use Rattle.laws.specs.Cases.{lt-or-ge}
 use Rattle.records.specs.declared.DataLength.{DataLength}
-use Rattle.records.specs.declared.Walked.{Walked}
 use Rattle.records.specs.Model.{Entry}
 use Rattle.records.specs.Places.{nextEntry, entryAt, entriesFrom, entryPlace}
 use Rattle.records.specs.Rules.{entryRefusal}
 use Rattle.records.specs.Walk.{passed, walkFrom}
-use Rattle.records.proofs.RuleLaws.{Entered, entered, key-short, key-passes, entry-passes, entry-key}
+use Rattle.records.proofs.RuleLaws.{Entered, entered, key-short, entry-passes, entry-key}
 
 -- n keys pass in a row from p on, after the entry at prev
 pub data Passed (slots : ℕ → ℕ) (bytes : List ℕ) (test : DataLength) : (prev p n : ℕ) → Type 0 where
@@ -40,6 +40,14 @@ unfolding entryPlace
 place-rises bytes p i zero l = absurd (not-suc-le-zero l)
 place-rises bytes p zero (suc j) l = omega (arith, place-up bytes (nextEntry bytes p) j)
 place-rises bytes p (suc i) (suc j) l = place-rises bytes (nextEntry bytes p) i j (omega arith)
+
+-- no two entries stand at one place
+pub place-apart : (bytes : List ℕ) (p i j : ℕ) → entryPlace bytes p i ≡ entryPlace bytes p j → i ≡ j
+place-apart bytes p i j e =
+    ⊎-elim (λ (l : i < j). absurd (let z = place-rises bytes p i j l in omega arith))
+    (λ (h : j ≤ i).
+    ⊎-elim (λ (q : j ≡ i). sym q) (λ (l : j < i). absurd (let z = place-rises bytes p j i l in omega arith)) (eq-or-lt-of-le h))
+    (lt-or-ge i j)
 
 -- one place more
 pub place-next : (bytes : List ℕ) (p i : ℕ) → entryPlace bytes p (suc i) ≡ nextEntry bytes (entryPlace bytes p i)

@@ -3,29 +3,20 @@ use Prim.Native.Nat.{ℕ, zero, suc, _+_, _-_, _*_, _<_, _≤_}
 use native.Mathlib.Nat.{not-suc-le-zero, zero-lt-suc, add-sub-cancel-left}
 use native.Mathlib.Omega.{arith}
 use mathlib.Core.Path.{_≡_, refl, sym, ap, _∙_}
-use mathlib.Core.List.{List, [], _∷_}
-use mathlib.Core.Bool.{Bool, true, false, not, cond, _&&_, _||_}
-use mathlib.Core.Logic.{_⊎_, inl, inr}
+use mathlib.Core.List.{List}
+use mathlib.Core.Bool.{Bool, true, false, not, cond}
 use lib.ListN.{length, take, drop}
-use lib.Dec.{ltb, eqb}
-use borrow.Author.Tests.{ltb-true, ltb-false, eqb-true, eqb-false, not-false, lt-ltb, le-ltb, eq-eqb, ne-eqb}
-use Rattle.laws.specs.Refusals.{Cause, cause, firstOf, orElse, None, Numbered, none-given, none-only}
+use lib.Dec.{ltb}
+use borrow.Author.Tests.{ltb-true, ltb-false, eqb-false, not-false, lt-ltb, le-ltb, eq-eqb, ne-eqb}
+use Rattle.laws.specs.Refusals.{None, none-given, none-only}
 use Rattle.laws.specs.Refusals.None.{none-here, none-more}
 use Rattle.laws.specs.Refusals.Numbered.{numbered-none, numbered-more}
 use Rattle.laws.specs.RefusalLaws.{orElse-stop, orElse-zero}
 use Rattle.words.specs.declared.part.Order.{Order}
-use Rattle.words.specs.declared.part.Order.the-variants.{Less, Equal, Greater}
 use Rattle.words.specs.Part.{orderOf}
 use Rattle.records.specs.declared.DataLength.{DataLength}
 use Rattle.records.specs.Places.{keyLength, versionCount, keyAt, firstVersion, nextEntry, sequenceAt, kindAt, lengthAt, offsetAt}
 use Rattle.records.specs.Rules.{isLess, keyRises, keyCauses, keyRefusal, badKind, pastData, fullTombstone, sequenceFalls, versionCauses, versionRefusal, versionsRefusal, entryVersionsRefusal, entryRefusal}
-
-pub eq-or-ne : (m n : ℕ) → (m ≡ n) ⊎ (m ≡ n → ⊥)
-eq-or-ne m n = go (eqb m n) refl
-  where
-    go : (t : Bool) → eqb m n ≡ t → (m ≡ n) ⊎ (m ≡ n → ⊥)
-    go true e = inl (eqb-true m n e)
-    go false e = inr (eqb-false m n e)
 
 -- two tests of one sum
 pub ltb-less : (n a b : ℕ) → a ≤ n → ltb n (a + b) ≡ ltb (n - a) b

@@ -1,8 +1,8 @@
 -- The walk and the tables: what a walk has passed is the bytes of exactly one table, which keeps the rules, and the bytes of a table that keeps the rules are walked whole. Assumes nothing.
-use Prim.Native.Nat.{ℕ, zero, suc, _+_, _-_, _*_, _<_, _≤_}
+use Prim.Native.Nat.{ℕ, _+_, _-_, _*_, _<_, _≤_}
 use native.Mathlib.Nat.{zero-add}
 use native.Mathlib.Omega.{arith}
-use mathlib.Core.Path.{_≡_, refl, sym, ap, _∙_}
+use mathlib.Core.Path.{_≡_, refl, ap, _∙_}
 use mathlib.Core.List.{List, [], _∷_, _++_, append-nil}
 use mathlib.Core.Bool.{cond}
 use lib.ListN.{length, take, drop, length-append}
@@ -11,7 +11,7 @@ use borrow.Author.Tests.{eq-eqb}
 use Rattle.words.proofs.Laws.{AllBytes}
 use Rattle.records.specs.declared.DataLength.{DataLength}
 use Rattle.records.specs.declared.Walked.{Walked}
-use Rattle.records.specs.Model.{Entry, entryBytes, tableBytes}
+use Rattle.records.specs.Model.{Entry, tableBytes}
 use Rattle.records.specs.Places.{entriesFrom, entryPlace}
 use Rattle.records.specs.Rules.{unslotted}
 use Rattle.records.specs.Tables.{TableFits, TableRules}
