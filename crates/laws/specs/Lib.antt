@@ -1,3 +1,4 @@
 pub mod Refusals
 pub mod RefusalLaws
 pub mod Each
+pub mod Cases
