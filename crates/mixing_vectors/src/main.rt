@@ -41,12 +41,6 @@ fn places_agree(p: &[u8]) -> bool {
     let h = vectors::u64_in(p, 0);
     let n = vectors::u32_in(p, 12) as usize;
     let b = vectors::u32_in(p, 16) as usize;
-    if n == 0 {
-        return false;
-    }
-    if b == 0 {
-        return false;
-    }
     if mixing::bucket(h, b) != vectors::u32_in(p, 20) as usize {
         return false;
     }

@@ -20,12 +20,12 @@ abbrev pub endOf : List ℕ → ℕ → ℕ → ℕ
 endOf raw at size = min (at + size) (length raw)
 
 -- where the `bytes` field at a place ends
-abbrev pub bytesEndOf : List ℕ → ℕ → ℕ
-bytesEndOf raw at = endOf raw (endOf raw at 4) (fieldOf 4 raw at)
+abbrev pub bytesEnd : List ℕ → ℕ → ℕ
+bytesEnd raw at = endOf raw (endOf raw at 4) (fieldOf 4 raw at)
 
 -- its bytes
-abbrev pub bytesPartOf : List ℕ → ℕ → List ℕ
-bytesPartOf raw at = take (bytesEndOf raw at - endOf raw at 4) (drop (endOf raw at 4) raw)
+abbrev pub fieldBytes : List ℕ → ℕ → List ℕ
+fieldBytes raw at = take (bytesEnd raw at - endOf raw at 4) (drop (endOf raw at 4) raw)
 
 -- a file with its magic (`WASHVEC1` as a number): the number of cases, and the first of them behind it
 abbrev pub openOf : List ℕ → File

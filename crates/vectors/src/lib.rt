@@ -4,7 +4,7 @@ use words::field;
 ghost use mathlib.Core.Path.{_≡_};
 ghost use Prim.Native.Nat.{_-_};
 ghost use lib.ListN.{length};
-ghost use Rattle.vectors.specs.Format.{fieldOf, endOf, bytesEndOf, bytesPartOf, openOf, nextOf, countedOf};
+ghost use Rattle.vectors.specs.Format.{fieldOf, endOf, bytesEnd, fieldBytes, openOf, nextOf, countedOf};
 
 // How many bytes stand from `at` on.
 fn room(raw: &[u8], at: usize) -> usize
@@ -68,7 +68,7 @@ pub fn end_in(raw: &[u8], at: usize, size: usize) -> usize
 
 // The place after the `bytes` field at `at`: a u32 length, then as many bytes.
 pub fn bytes_end(raw: &[u8], at: usize) -> usize
-    ensures { λ r. ⌜ r ≡ bytesEndOf (now (raw .entry)) at ⌝ }
+    ensures { λ r. ⌜ r ≡ bytesEnd (now (raw .entry)) at ⌝ }
 {
     let start = end_in(raw, at, 4);
     end_in(raw, start, u32_in(raw, at) as usize)
@@ -76,7 +76,7 @@ pub fn bytes_end(raw: &[u8], at: usize) -> usize
 
 // The bytes of the `bytes` field at `at`.
 pub fn bytes_in(raw: &[u8], at: usize) -> &[u8]
-    ensures { λ r. ⌜ now r ≡ bytesPartOf (now (raw .entry)) at ⌝ }
+    ensures { λ r. ⌜ now r ≡ fieldBytes (now (raw .entry)) at ⌝ }
 {
     let start = end_in(raw, at, 4);
     let end = bytes_end(raw, at);
