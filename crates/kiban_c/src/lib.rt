@@ -1,4 +1,6 @@
 // The calls that a Rust or C host links: numbers and slices alone, each a public call of a crate below.
+pub mod build;
+
 ghost use mathlib.Core.Path.{_≡_};
 ghost use Rattle.mixing.specs.Mixing.{mixOf, hashOf};
 
