@@ -1,0 +1,1 @@
+// Definitions and lemmas that two or more crates share, in specs/: no code.
