@@ -1,23 +1,21 @@
 -- The workspace while buckets are placed: what a step reads of it, and what it leaves.
-use Prim.Native.Nat.{ℕ, zero, suc, _+_, _-_, _≤_, _<_}
+use Prim.Native.Nat.{ℕ, suc, _+_, _-_, _≤_, _<_}
 use mathlib.Core.Path.{_≡_, refl, sym, ap, ap₂, _∙_, subst}
-use mathlib.Core.Bool.{Bool, true, false, cond, false≢true}
-use lib.Dec.{eqb}
-use borrow.Author.Tests.{eq-eqb, ne-eqb}
-use mathlib.Core.List.{List, _++_}
+use mathlib.Core.Bool.{Bool, true, false, false≢true}
+use mathlib.Core.List.{List}
 use mathlib.Core.Option.{Option, none, some, Option·map}
 use native.Mathlib.Nat.{zero-add}
 use native.Mathlib.Numerals.{add-one, lt-of-le-of-ne}
 use native.Mathlib.Omega.{arith}
-use lib.ListN.{length, getD, set, take, drop, length-take, length-drop}
+use lib.ListN.{length, getD, set, take, drop, length-drop}
 use lib.Seq.{length-take-le, getD-take, take-set-le}
 use Rattle.laws.specs.Steps.{least, steps, steps-none, steps-more, steps-failed}
-use Rattle.construct.specs.Construct.{bucketsOf, tries, group, size, seat, Placing, noted, placeGroup, placeSingle, placeOf, placeSize, placeDown, twins, twinsAt}
+use Rattle.construct.specs.Construct.{bucketsOf, tries, group, size, seat, Placing, noted, placeGroup, placeOf, placeSize, placeDown, twins, twinsAt}
 use Rattle.construct.specs.Seating.{Keys, Ready, Searched}
-use Rattle.construct.specs.Layout.{start, placing, Grouped, Bench, Stepped}
-use Rattle.construct.proofs.Placed.{some-buckets, member-of}
+use Rattle.construct.specs.Layout.{start, placing, Bench, Stepped}
+use Rattle.construct.proofs.Placed.{member-of, of-skips, of-several}
 use Rattle.construct.proofs.Places.{start-next, start-all, start-rises}
-use Rattle.construct.proofs.Parts.{part, back, set-inside, set-before, set-behind, back-inside, back-before}
+use Rattle.construct.proofs.Parts.{part, back, set-inside, set-before, back-inside, back-before}
 
 pub span : (a n : ℕ) → a + n - a ≡ n
 span a n = omega arith
@@ -141,12 +139,10 @@ module _ (h w : List ℕ) (n b : ℕ) (B : Bench h w n b) (k : ℕ) (l : k < b) 
   bench-size = omega (arith, bench-from h w n b B k l, bench-to h w n b B k l)
 
   pub of-other : (s : ℕ) → (getD w (k + 1) 0 - getD w k 0 ≡ s → ⊥) → Stepped (placeOf (take n h) s k (placing n b w)) n b w w true
-  unfolding placeOf
-  of-other s z = (ap (λ (t : Bool). cond t (cond (eqb s 1) (placeSingle (take n h) k (placing n b w)) (placeGroup (take n h) k (placing n b w))) (some (placing n b w))) (ne-eqb (size (take n h) k) s (λ y. z (bench-size ∙ y))), refl)
+  of-other s z = (of-skips (take n h) s k (placing n b w) (λ y. z (bench-size ∙ y)), refl)
 
   pub of-group : (s : ℕ) → 1 < s → getD w (k + 1) 0 - getD w k 0 ≡ s → placeOf (take n h) s k (placing n b w) ≡ placeGroup (take n h) k (placing n b w)
-  unfolding placeOf
-  of-group s two z = ap₂ (λ (t u : Bool). cond t (cond u (placeSingle (take n h) k (placing n b w)) (placeGroup (take n h) k (placing n b w))) (some (placing n b w))) (eq-eqb (size (take n h) k) s (sym bench-size ∙ z)) (ne-eqb s 1 (λ y. omega arith))
+  of-group s two z = of-several (take n h) s k (placing n b w) (sym bench-size ∙ z) (λ y. omega arith)
 
   pub of-same : (s : ℕ) (w′ : List ℕ) (r : Bool) → 1 < s → getD w (k + 1) 0 - getD w k 0 ≡ s → Stepped (placeGroup (take n h) k (placing n b w)) n b w w′ r → Stepped (placeOf (take n h) s k (placing n b w)) n b w w′ r
   of-same s w′ r two z g = subst (λ (o : Option Placing). Stepped o n b w w′ r) (sym (of-group s two z)) g

@@ -73,10 +73,11 @@ module _ (hs ms : List ℕ) (p : ℕ) (s : List ℕ) (low : (i : ℕ) → spot h
     where
       go : Waiting j → Waiting (suc j)
       go (t, e, same) =
-          let free : getD t (spot hs ms p j) 0 ≡ 0 = same (spot hs ms p j) (λ i li z. F .distinct i j li l (sym z)) ∙ F .unoccupied j l in
-          (set t (spot hs ms p j) (suc (getD ms j 0)),
-          steps-more (λ i. settle (spot hs ms p i) (getD ms i 0)) j s t e ∙ settle-free (spot hs ms p j) (getD ms j 0) t free,
-          λ a z. getD-set-other t (spot hs ms p j) a (suc (getD ms j 0)) 0 (z j (omega arith)) ∙ same a (λ i li. z i (omega arith)))
+          let free : getD t (spot hs ms p j) 0 ≡ 0 = same (spot hs ms p j) (λ i li z. F .distinct i j li l (sym z)) ∙ F .unoccupied j l in (
+            set t (spot hs ms p j) (suc (getD ms j 0)),
+            steps-more (λ i. settle (spot hs ms p i) (getD ms i 0)) j s t e ∙ settle-free (spot hs ms p j) (getD ms j 0) t free,
+            λ a z. getD-set-other t (spot hs ms p j) a (suc (getD ms j 0)) 0 (z j (omega arith)) ∙ same a (λ i li. z i (omega arith)),
+          )
 
   pub fits-seat : Fits hs ms p s → (t : List ℕ) × (seat hs ms p (length ms) s ≡ some t)
   unfolding Waiting

@@ -1,4 +1,4 @@
--- The laws that the proofs of `construct` cite, and the theorem of the placing.
+-- The laws that the proofs of `construct` cite, and the theorems of the placing.
 pub mod Members
 pub mod Slots
 pub mod Placed
@@ -13,3 +13,8 @@ pub mod Laying
 pub mod KeysLaws
 pub mod ConstructLaws
 pub mod FitsLaws
+pub mod Turns
+pub mod Failing
+pub mod Choosing
+pub mod Exhausting
+pub mod Figures

@@ -1,9 +1,9 @@
--- The theorem of the placing: where an attempt succeeds, each key's hash is looked up to the slot that holds the key, and each slot holds a key. So the closing self-check never fails. And a single bucket always finds a free slot.
-use Prim.Native.Nat.{ℕ, zero, suc, _+_, _-_, _/_, _≤_, _<_}
+-- Where an attempt succeeds, every key is found at its index and every slot holds exactly one key; a single-member bucket always finds a free slot. Assumes nothing.
+use Prim.Native.Nat.{ℕ, zero, suc, _+_, _-_, _≤_, _<_}
 use mathlib.Core.Path.{_≡_, refl, sym, ap, ap₂, _∙_, subst}
 use mathlib.Core.Bool.{Bool, true, false, cond, _||_, _&&_, and-false, and-true, false≢true}
-use mathlib.Core.List.{List, [], _∷_}
-use mathlib.Core.Option.{Option, none, some, Option·map, map-eq-some-iff, map-eq-none-iff, Option·some-injective, Option·none-ne-some, Option·some-ne-none}
+use mathlib.Core.List.{List}
+use mathlib.Core.Option.{Option, none, some, map-eq-some-iff, map-eq-none-iff, Option·some-injective, Option·none-ne-some, Option·some-ne-none}
 use mathlib.Core.Logic.{_⊎_, inl, inr, ⊎-elim}
 use native.Mathlib.Nat.{zero-add, sub-zero, le-pred-of-lt}
 use native.Mathlib.Omega.{arith}
@@ -12,19 +12,13 @@ use native.Mathlib.Numerals.{lt-of-le-of-ne}
 use lib.ListN.{length, getD, set, replicate, length-set, length-replicate}
 use lib.Seq.{getD-set-same, getD-set-other}
 use lib.Dec.{eqb, ltb, lit≤}
-use borrow.Author.Tests.{eq-eqb, ne-eqb, lt-ltb, le-ltb, ltb-true}
+use borrow.Author.Tests.{eq-eqb, ne-eqb, lt-ltb, le-ltb}
 use Rattle.mixing.specs.Mixing.{bucketOf, positionOf, bucketOf-lt, positionOf-lt}
-use Rattle.laws.specs.Steps.{steps, steps-keep, steps-why, least, least-found, least-none, anyBelow, total, total-bump, total-same, total-zero, total-mono, greatest, greatest-above}
-use Rattle.construct.specs.Construct.{bucketsOf, tries, direct, attempts, members, group, size, settle, spot, seat, Placing, noted, placeGroup, placeSingle, placeOf, placeSize, placeDown, largest, blank, anyTwins, attemptFrom, attemptOf, slotBy, indexOf, twins, constructOf}
+use Rattle.laws.specs.Steps.{steps, steps-keep, least, least-found, least-none, total, total-bump, total-same, total-zero, total-mono, greatest, greatest-above}
+use Rattle.construct.specs.Construct.{bucketsOf, tries, direct, members, group, size, settle, spot, seat, Placing, noted, placeGroup, placeSingle, placeOf, placeSize, placeDown, largest, blank, anyTwins, attemptFrom, attemptOf, slotBy, indexOf}
+use Rattle.construct.specs.Promised.{Whole}
 use Rattle.construct.proofs.Members.{member-key, member-at, count-all}
 use Rattle.construct.proofs.Slots.{filled, filled-none, some-free, none-free, settle-free, Grown, Since, Settled, settled, Seated, seated}
-
--- what a finished placing is: every key is found in the slot that its hash is looked up to, and every slot holds such a key
-pub record Placed (hs : List ℕ) (pl : Placing) : Type 0 where
-  pub pilots-long : length (pl .pilots) ≡ bucketsOf (length hs)
-  pub slots-long : length (pl .slots) ≡ length hs
-  pub found : (i : ℕ) → i < length hs → getD (pl .slots) (indexOf (getD hs i 0) (pl .pilots) (length hs)) 0 ≡ suc i
-  pub holds : (a : ℕ) → a < length hs → (i : ℕ) × (i < length hs) × (getD (pl .slots) a 0 ≡ suc i) × (indexOf (getD hs i 0) (pl .pilots) (length hs) ≡ a)
 
 -- while the buckets that D names are placed
 pub record Partly (hs : List ℕ) (D : ℕ → Bool) (pl : Placing) : Type 0 where
@@ -214,8 +208,22 @@ module _ (hs : List ℕ) (pos : 0 < length hs) (D D′ : ℕ → Bool) (k : ℕ)
       room : filled (pl .slots) < length hs
       room = omega (arith, w .count, one, all-keys hs pos, total-mono f′ (size hs) (bucketsOf (length hs)) (λ j l. at-most (D′ j) (size hs j)), total-bump f f′ (bucketsOf (length hs)) k (size hs k) low bump (λ j z. ap (λ (t : Bool). cond t (size hs j) 0) (others j z)))
 
+-- bucket k in the pass of size s: passed over, or placed by its size
+module _ (hs : List ℕ) (s k : ℕ) (pl : Placing) where
+  pub of-skips : (size hs k ≡ s → ⊥) → placeOf hs s k pl ≡ some pl
+  unfolding placeOf
+  of-skips e = ap (λ (t : Bool). cond t (cond (eqb s 1) (placeSingle hs k pl) (placeGroup hs k pl)) (some pl)) (ne-eqb (size hs k) s e)
+
+  pub of-one : size hs k ≡ s → s ≡ 1 → placeOf hs s k pl ≡ placeSingle hs k pl
+  unfolding placeOf
+  of-one e d = ap₂ (λ (t u : Bool). cond t (cond u (placeSingle hs k pl) (placeGroup hs k pl)) (some pl)) (eq-eqb (size hs k) s e) (eq-eqb s 1 d)
+
+  pub of-several : size hs k ≡ s → (s ≡ 1 → ⊥) → placeOf hs s k pl ≡ placeGroup hs k pl
+  unfolding placeOf
+  of-several e d = ap₂ (λ (t u : Bool). cond t (cond u (placeSingle hs k pl) (placeGroup hs k pl)) (some pl)) (eq-eqb (size hs k) s e) (ne-eqb s 1 d)
+
 -- the buckets that are placed when those above size s are, and of size s those below bucket k
-abbrev done : List ℕ → ℕ → ℕ → ℕ → Bool
+abbrev pub done : List ℕ → ℕ → ℕ → ℕ → Bool
 done hs s k j = ltb s (size hs j) || (eqb (size hs j) s && ltb j k)
 
 ltb-next : (j k : ℕ) → (j ≡ k → ⊥) → ltb j (suc k) ≡ ltb j k
@@ -226,16 +234,16 @@ ltb-next j k e = go (decLt j k)
     go (no l) = le-ltb j (suc k) (lt-of-le-of-ne (omega arith) (λ z. e (sym z))) ∙ sym (le-ltb j k (omega arith))
 
 -- passing bucket k places it if its size is s, and no other
-done-others : (hs : List ℕ) (s k j : ℕ) → (j ≡ k → ⊥) → done hs s (suc k) j ≡ done hs s k j
+pub done-others : (hs : List ℕ) (s k j : ℕ) → (j ≡ k → ⊥) → done hs s (suc k) j ≡ done hs s k j
 done-others hs s k j e = ap (λ (t : Bool). ltb s (size hs j) || (eqb (size hs j) s && t)) (ltb-next j k e)
 
-done-not-yet : (hs : List ℕ) (s k : ℕ) → size hs k ≡ s → done hs s k k ≡ false
+pub done-not-yet : (hs : List ℕ) (s k : ℕ) → size hs k ≡ s → done hs s k k ≡ false
 done-not-yet hs s k e = ap₂ (λ (t u : Bool). t || (eqb (size hs k) s && u)) (le-ltb s (size hs k) (omega arith)) (le-ltb k k (omega arith)) ∙ and-false (eqb (size hs k) s)
 
-done-now : (hs : List ℕ) (s k : ℕ) → size hs k ≡ s → done hs s (suc k) k ≡ true
+pub done-now : (hs : List ℕ) (s k : ℕ) → size hs k ≡ s → done hs s (suc k) k ≡ true
 done-now hs s k e = ap₂ (λ (t u : Bool). t || (eqb (size hs k) s && u)) (le-ltb s (size hs k) (omega arith)) (lt-ltb k (suc k) (omega arith)) ∙ and-true (eqb (size hs k) s) ∙ eq-eqb (size hs k) s e
 
-done-skips : (hs : List ℕ) (s k : ℕ) → (size hs k ≡ s → ⊥) → (j : ℕ) → done hs s k j ≡ done hs s (suc k) j
+pub done-skips : (hs : List ℕ) (s k : ℕ) → (size hs k ≡ s → ⊥) → (j : ℕ) → done hs s k j ≡ done hs s (suc k) j
 done-skips hs s k e j = go (ℕ-discrete j k)
   where
     go : Dec (j ≡ k) → done hs s k j ≡ done hs s (suc k) j
@@ -245,8 +253,16 @@ done-skips hs s k e j = go (ℕ-discrete j k)
         flat : (t : Bool) → (ltb s (size hs j) || (eqb (size hs j) s && t)) ≡ (ltb s (size hs j) || false)
         flat t = ap (λ (u : Bool). ltb s (size hs j) || (u && t)) (ne-eqb (size hs j) s (λ y. e (ap (size hs) (sym z) ∙ y)))
 
+-- at size s, none that is no larger
+pub done-none : (hs : List ℕ) (s k : ℕ) → size hs k ≤ s → done hs s 0 k ≡ false
+done-none hs s k l = ap₂ (λ (t u : Bool). t || (eqb (size hs k) s && u)) (le-ltb s (size hs k) l) (le-ltb k 0 (omega arith)) ∙ and-false (eqb (size hs k) s)
+
+-- at size 0, all that are not empty
+pub done-all : (hs : List ℕ) (k : ℕ) → 0 < size hs k → done hs 0 0 k ≡ true
+done-all hs k l = ap (λ (t : Bool). t || (eqb (size hs k) 0 && ltb k 0)) (lt-ltb 0 (size hs k) l)
+
 -- all of size s + 1 placed, and none of size s
-done-turns : (hs : List ℕ) (s b j : ℕ) → j < b → done hs (suc s) b j ≡ done hs s 0 j
+pub done-turns : (hs : List ℕ) (s b j : ℕ) → j < b → done hs (suc s) b j ≡ done hs s 0 j
 done-turns hs s b j l = go (decLt (suc s) (size hs j)) (ℕ-discrete (size hs j) (suc s))
   where
     right : done hs s 0 j ≡ (ltb s (size hs j) || false)
@@ -264,20 +280,19 @@ done-turns hs s b j l = go (decLt (suc s) (size hs j)) (ℕ-discrete (size hs j)
 module _ (hs : List ℕ) (pos : 0 < length hs) where
   -- bucket k passed, in the pass of size s
   pub of-joins : (s k : ℕ) → k < bucketsOf (length hs) → (pl pl′ : Placing) → Partly hs (done hs s k) pl → placeOf hs s k pl ≡ some pl′ → Partly hs (done hs s (suc k)) pl′
-  unfolding placeOf
   of-joins s k l pl pl′ w h = go (ℕ-discrete (size hs k) s) (ℕ-discrete s 1)
     where
       go : Dec (size hs k ≡ s) → Dec (s ≡ 1) → Partly hs (done hs s (suc k)) pl′
       go (no e) d =
           subst (λ (x : Placing). Partly hs (done hs s (suc k)) x)
-          (Option·some-injective pl pl′ (sym (ap (λ (t : Bool). cond t (cond (eqb s 1) (placeSingle hs k pl) (placeGroup hs k pl)) (some pl)) (ne-eqb (size hs k) s e)) ∙ h))
+          (Option·some-injective pl pl′ (sym (of-skips hs s k pl e) ∙ h))
           (same-partly hs (done hs s k) (done hs s (suc k)) pl pos (λ j _. done-skips hs s k e j) w)
       go (yes e) (yes d) =
           single-joins hs pos (done hs s k) (done hs s (suc k)) k l (done-not-yet hs s k e) (done-now hs s k e) (done-others hs s k) pl pl′ (e ∙ d) w
-          (sym (ap₂ (λ (t u : Bool). cond t (cond u (placeSingle hs k pl) (placeGroup hs k pl)) (some pl)) (eq-eqb (size hs k) s e) (eq-eqb s 1 d)) ∙ h)
+          (sym (of-one hs s k pl e d) ∙ h)
       go (yes e) (no d) =
           group-joins hs pos (done hs s k) (done hs s (suc k)) k l (done-not-yet hs s k e) (done-now hs s k e) (done-others hs s k) pl pl′ w
-          (sym (ap₂ (λ (t u : Bool). cond t (cond u (placeSingle hs k pl) (placeGroup hs k pl)) (some pl)) (eq-eqb (size hs k) s e) (ne-eqb s 1 d)) ∙ h)
+          (sym (of-several hs s k pl e d) ∙ h)
 
   -- part of a pass
   pub size-partly : (s k : ℕ) → k ≤ bucketsOf (length hs) → (pl pl′ : Placing) → Partly hs (done hs s 0) pl → steps (placeOf hs s) k pl ≡ some pl′ → Partly hs (done hs s k) pl′
@@ -306,7 +321,7 @@ module _ (hs : List ℕ) (pos : 0 < length hs) where
       never (suc n) (suc a) i h = never n a i h
 
   -- the first t passes
-  passes-partly : (t : ℕ) → t ≤ largest hs → (pl : Placing) → steps (placeDown hs (largest hs)) t (blank hs) ≡ some pl → Partly hs (done hs (largest hs - t) 0) pl
+  pub passes-partly : (t : ℕ) → t ≤ largest hs → (pl : Placing) → steps (placeDown hs (largest hs)) t (blank hs) ≡ some pl → Partly hs (done hs (largest hs - t) 0) pl
   unfolding largest placeDown
   passes-partly t lt pl h =
       steps-keep (placeDown hs L) (λ t x. Partly hs (done hs (L - t) 0) x) (blank hs)
@@ -319,9 +334,9 @@ module _ (hs : List ℕ) (pos : 0 < length hs) where
       L = greatest (size hs) (bucketsOf (length hs))
 
       start : (k : ℕ) → k < bucketsOf (length hs) → false ≡ done hs L 0 k
-      start k l = sym (ap₂ (λ (t u : Bool). t || (eqb (size hs k) L && u)) (le-ltb L (size hs k) (greatest-above (size hs) (bucketsOf (length hs)) k l)) (le-ltb k 0 (omega arith)) ∙ and-false (eqb (size hs k) L))
+      start k l = sym (done-none hs L k (greatest-above (size hs) (bucketsOf (length hs)) k l))
 
-  all-placed : (pl : Placing) → Partly hs (done hs 0 0) pl → Placed hs pl
+  all-placed : (pl : Placing) → Partly hs (done hs 0 0) pl → Whole hs pl
   all-placed pl w = record {
     pilots-long = w .pilots-long;
     slots-long = w .slots-long;
@@ -332,16 +347,13 @@ module _ (hs : List ℕ) (pos : 0 < length hs) where
       bk : ℕ → ℕ
       bk i = bucketOf (getD hs i 0) (bucketsOf (length hs))
 
-      done-if : (k : ℕ) → 0 < size hs k → done hs 0 0 k ≡ true
-      done-if k l = ap (λ (t : Bool). t || (eqb (size hs k) 0 && ltb k 0)) (lt-ltb 0 (size hs k) l)
-
       is-done : (i : ℕ) → i < length hs → done hs 0 0 (bk i) ≡ true
       is-done i l =
           let q = key-place hs (bk i) i l refl in
-          done-if (bk i) (omega (arith, q .1))
+          done-all hs (bk i) (omega (arith, q .1))
 
       weight : (k : ℕ) → Dec (0 < size hs k) → cond (done hs 0 0 k) (size hs k) 0 ≡ size hs k
-      weight k (yes l) = ap (λ (t : Bool). cond t (size hs k) 0) (done-if k l)
+      weight k (yes l) = ap (λ (t : Bool). cond t (size hs k) 0) (done-all hs k l)
       weight k (no l) = empty (done hs 0 0 k) (size hs k) (omega arith)
         where
           empty : (t : Bool) (x : ℕ) → x ≡ 0 → cond t x 0 ≡ x
@@ -357,50 +369,11 @@ module _ (hs : List ℕ) (pos : 0 < length hs) where
           let r = w .holds a i e in
           (i, r .0, e, r .2)
 
-  -- THE THEOREM: where an attempt succeeds, every key is found, and every slot holds a key
-  pub placed : (pl : Placing) → attemptOf hs ≡ some pl → Placed hs pl
+  -- where an attempt succeeds, every key is found at its index, and every slot holds exactly one key
+  pub placed : (pl : Placing) → attemptOf hs ≡ some pl → Whole hs pl
   unfolding attemptOf attemptFrom
   placed pl h = go (anyTwins hs) h
     where
-      go : (t : Bool) → cond t none (steps (placeDown hs (largest hs)) (largest hs) (blank hs)) ≡ some pl → Placed hs pl
+      go : (t : Bool) → cond t none (steps (placeDown hs (largest hs)) (largest hs) (blank hs)) ≡ some pl → Whole hs pl
       go true e = absurd (Option·none-ne-some pl e)
       go false e = all-placed pl (subst (λ (x : ℕ). Partly hs (done hs x 0) pl) (omega arith) (passes-partly (largest hs) (omega arith) pl e))
-
-  -- a bucket of two or more, of which no pilot takes all members
-  abbrev pub Stuck : Type 0
-  Stuck = (k : ℕ) × (pl : Placing) × (k < bucketsOf (length hs)) × (1 < size hs k) × (placeGroup hs k pl ≡ none)
-
-  of-fails : (s k : ℕ) → 0 < s → k < bucketsOf (length hs) → (pl : Placing) → Partly hs (done hs s k) pl → placeOf hs s k pl ≡ none → Stuck
-  unfolding placeOf
-  of-fails s k some-s l pl w h = go (ℕ-discrete (size hs k) s) (ℕ-discrete s 1)
-    where
-      go : Dec (size hs k ≡ s) → Dec (s ≡ 1) → Stuck
-      go (no e) d = absurd (Option·some-ne-none pl (sym (ap (λ (t : Bool). cond t (cond (eqb s 1) (placeSingle hs k pl) (placeGroup hs k pl)) (some pl)) (ne-eqb (size hs k) s e)) ∙ h))
-      go (yes e) (yes d) =
-          absurd (single-finds hs pos (done hs s k) (done hs s (suc k)) k l (done-not-yet hs s k e) (done-now hs s k e) (done-others hs s k) pl (e ∙ d) w
-          (sym (ap₂ (λ (t u : Bool). cond t (cond u (placeSingle hs k pl) (placeGroup hs k pl)) (some pl)) (eq-eqb (size hs k) s e) (eq-eqb s 1 d)) ∙ h))
-      go (yes e) (no d) =
-          (k, pl, l, subst (λ (x : ℕ). 1 < x) (sym e) (lt-of-le-of-ne some-s (λ z. d (sym z))), sym (ap₂ (λ (t u : Bool). cond t (cond u (placeSingle hs k pl) (placeGroup hs k pl)) (some pl)) (eq-eqb (size hs k) s e) (ne-eqb s 1 d)) ∙ h)
-
-  passes-fail : steps (placeDown hs (largest hs)) (largest hs) (blank hs) ≡ none → Stuck
-  unfolding placeDown placeSize
-  passes-fail h =
-      let p = steps-why (placeDown hs (largest hs)) (largest hs) (blank hs) h in
-      let q = steps-why (placeOf hs (largest hs - p .0)) (bucketsOf (length hs)) (p .1) (p .4) in
-      of-fails (largest hs - p .0) (q .0) (omega (arith, p .2)) (q .2) (q .1) (size-partly (largest hs - p .0) (q .0) (omega (arith, q .2)) (p .1) (q .1) (passes-partly (p .0) (omega (arith, p .2)) (p .1) (p .3)) (q .3)) (q .4)
-
-  -- WHY AN ATTEMPT FAILS: two keys of a bucket have equal hashes, or a bucket of two or more finds no pilot; never for want of a free slot
-  pub fails-why : attemptOf hs ≡ none → (anyTwins hs ≡ true) ⊎ Stuck
-  unfolding attemptOf attemptFrom
-  fails-why h = go (anyTwins hs) refl h
-    where
-      go : (t : Bool) → anyTwins hs ≡ t → cond t none (steps (placeDown hs (largest hs)) (largest hs) (blank hs)) ≡ none → (anyTwins hs ≡ true) ⊎ Stuck
-      go true e h = inl e
-      go false e h = inr (passes-fail h)
-
--- the eight attempts: the one that is taken is placed
-pub constructed : (hashes : ℕ → List ℕ) → ((i : ℕ) → 0 < length (hashes i)) → (i : ℕ) (pl : Placing) → constructOf hashes ≡ some (i, pl) → (i < attempts) × Placed (hashes i) pl
-unfolding constructOf
-constructed hashes pos i pl h =
-    let r = least-found (λ i. attemptOf (hashes i)) attempts 0 i pl h in
-    (omega (arith, r .1), placed (hashes i) (pos i) pl (r .0))

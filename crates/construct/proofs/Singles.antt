@@ -1,24 +1,22 @@
 -- A single bucket takes the lowest free slot.
-use Prim.Native.Nat.{ℕ, zero, suc, _+_, _-_, _≤_, _<_}
-use mathlib.Core.Path.{_≡_, refl, sym, ap, ap₂, _∙_, subst}
-use mathlib.Core.Bool.{Bool, true, false, cond}
+use Prim.Native.Nat.{ℕ, suc, _+_, _-_, _≤_, _<_}
+use mathlib.Core.Path.{_≡_, refl, sym, ap, _∙_, subst}
+use mathlib.Core.Bool.{true}
 use mathlib.Core.List.{List}
-use mathlib.Core.Option.{Option, none, some, Option·map}
+use mathlib.Core.Option.{none, some, Option·map}
 use native.Mathlib.Nat.{add-zero}
 use native.Mathlib.Decide.{ℕ-discrete}
 use native.Mathlib.Numerals.{add-one, lt-of-le-of-ne}
 use native.Mathlib.Omega.{arith}
 use lib.ListN.{length, getD, set, take, drop}
 use lib.Seq.{getD-take, getD-drop, getD-set-same, getD-set-other, take-set-le}
-use lib.Dec.{eqb}
-use borrow.Author.Tests.{eq-eqb}
-use Rattle.laws.specs.Steps.{least, least-at, least-of-none}
-use Rattle.construct.specs.Construct.{direct, group, size, settle, Placing, noted, placeGroup, placeSingle, placeOf}
+use Rattle.laws.specs.Steps.{least-at, least-of-none}
+use Rattle.construct.specs.Construct.{direct, group, size, settle, noted, placeSingle, placeOf}
 use Rattle.construct.specs.Layout.{placing, Bench, Stepped, Taken, Lowest, SingleOf}
-use Rattle.construct.proofs.Placed.{member-of}
+use Rattle.construct.proofs.Placed.{member-of, of-one}
 use Rattle.construct.proofs.Slots.{settle-free, settle-taken}
 use Rattle.construct.proofs.Parts.{part, set-inside, set-before, set-behind}
-use Rattle.construct.proofs.Benches.{bench-keys, bench-from, bench-to, bench-most, bench-group, bench-size, bench-slots, same-placing, of-other}
+use Rattle.construct.proofs.Benches.{bench-keys, bench-group, bench-size, bench-slots, same-placing, of-other}
 
 module _ (h w : List ℕ) (n b : ℕ) (B : Bench h w n b) (k : ℕ) (l : k < b) (one : getD w (k + 1) 0 - getD w k 0 ≡ 1) where
   -- its member, as it is read
@@ -35,8 +33,7 @@ module _ (h w : List ℕ) (n b : ℕ) (B : Bench h w n b) (k : ℕ) (l : k < b) 
   single-key = omega (arith, single-member, member-of (take n h) k 0 (omega (arith, bench-size h w n b B k l)) .0, bench-keys h w n b B)
 
   as-single : placeOf (take n h) 1 k (placing n b w) ≡ placeSingle (take n h) k (placing n b w)
-  unfolding placeOf
-  as-single = ap₂ (λ (t u : Bool). cond t (cond u (placeSingle (take n h) k (placing n b w)) (placeGroup (take n h) k (placing n b w))) (some (placing n b w))) (eq-eqb (size (take n h) k) 1 (sym (bench-size h w n b B k l) ∙ one)) (eq-eqb 1 1 refl)
+  as-single = of-one (take n h) 1 k (placing n b w) (sym (bench-size h w n b B k l) ∙ one) refl
 
   -- no slot is free
   pub single-none : Taken (part (b + 1 + b) n w) n → placeOf (take n h) 1 k (placing n b w) ≡ none
