@@ -1,1 +1,5 @@
 pub mod Model
+pub mod Places
+pub mod Rules
+pub mod Walk
+pub mod Within

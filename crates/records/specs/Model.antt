@@ -1,13 +1,14 @@
 -- The record list that an arena stands for, and its bytes (document 01, "Layouts").
-use Prim.Native.Nat.{ℕ, _<_}
+use Prim.Native.Nat.{ℕ, _-_, _^_, _<_}
 use mathlib.Core.List.{List, [], _∷_, _++_}
-use mathlib.Core.Bool.{Bool, true, false, cond}
+use mathlib.Core.Bool.{Bool, true, cond, _&&_}
+use mathlib.Core.Option.{Option, none, some}
 use mathlib.Core.Path.{_≡_}
 use lib.ListN.{length}
 use lib.Dec.{leb, eqb}
 use Rattle.words.specs.Field.{bytesOf}
 use Rattle.words.specs.declared.part.Order.the-variants.{Less}
-use Rattle.words.specs.Part.{orderOf}
+use Rattle.words.specs.Part.{orderOf, sameAs}
 use Rattle.records.specs.declared.Kind.{Kind}
 use Rattle.records.specs.declared.Kind.the-variants.{Put, Tombstone}
 use Rattle.records.specs.declared.KindRead.{KindRead}
@@ -52,6 +53,30 @@ tableBytes (e ∷ es) = entryBytes e ++ tableBytes es
 unfoldable pub within : Limit → ℕ → Bool
 within None sequence = true
 within (UpTo l) sequence = leb sequence l
+
+-- a limit as a number: none is the greatest sequence there is
+abbrev pub limitOf : Limit → ℕ
+limitOf None = 2 ^ 64 - 1
+limitOf (UpTo l) = l
+
+-- every record of a key
+unfoldable pub recordsOf : List Entry → List ℕ → List Record
+recordsOf [] key = []
+recordsOf (e ∷ es) key = cond (sameAs (e .key) key) (e .versions ++ recordsOf es key) (recordsOf es key)
+
+-- of a record and what was found: the record where it is within the limit and its sequence is not below
+unfoldable pub better : Limit → Record → Option Record → Option Record
+better limit r none = cond (within limit (r .sequence)) (some r) none
+better limit r (some s) = cond (within limit (r .sequence) && leb (s .sequence) (r .sequence)) (some r) (some s)
+
+-- the record of greatest sequence within the limit
+unfoldable pub greatest : Limit → List Record → Option Record
+greatest limit [] = none
+greatest limit (r ∷ rs) = better limit r (greatest limit rs)
+
+-- the lookup: that key's record of greatest sequence within the limit, or nothing
+unfoldable pub lookup : List Entry → List ℕ → Limit → Option Record
+lookup table key limit = greatest limit (recordsOf table key)
 
 -- sequences strictly falling
 pub data Falls : List Record → Type 0 where

@@ -66,3 +66,23 @@ impl Limit {
         }
     }
 }
+
+// The length of the data that offsets point into, where it is tested.
+pub enum DataLength {
+    Untested,
+    Of(u64),
+}
+
+// What a walk found: the keys that passed, the place after the last whole one, and the rule that stopped it (0: none).
+pub struct Walked {
+    pub keys: usize,
+    pub end: usize,
+    pub rule: u8,
+}
+
+// The first version within a limit: its record, none, or a version that can't be read.
+pub enum Within {
+    Found(Record),
+    Nothing,
+    Damaged,
+}
