@@ -7,14 +7,15 @@ use mathlib.Core.Option.{Option, none, some, Option·some-injective, Option·non
 use native.Mathlib.Omega.{arith}
 use native.Mathlib.Decide.{ℕ-discrete}
 use native.Mathlib.Numerals.{lt-of-le-of-ne}
-use lib.ListN.{length, getD, take, drop}
+use lib.ListN.{length, getD, take, drop, replicate}
 use lib.Seq.{length-take-le, length-front, take-at}
 use borrow.Author.Tests.{lt-ltb, le-ltb}
 use Rattle.mixing.specs.Mixing.{bucketOf, positionOf, seedOf}
 use Rattle.laws.specs.Steps.{least-at, least-of-none}
 use Rattle.construct.specs.Construct.{bucketsOf, direct, attempts, Placing, attemptOf, constructOf, slotBy, indexOf}
 use Rattle.construct.specs.Keys.{Entries, hashesOf, attemptHashes}
-use Rattle.construct.specs.Layout.{placing, Zero, Fresh, Lent, Attempted, answerOf, Built}
+use Rattle.construct.specs.Layout.{placing, Fresh, Lent, Attempted, answerOf, Built}
+use Rattle.construct.proofs.Laying.{zero-front}
 use Rattle.construct.specs.declared.Constructed.the-variants.{Placed, Exhausted}
 
 -- the workspace lent for the keys of an arena
@@ -28,19 +29,27 @@ module _ (arena h w : List ℕ) (n : ℕ) (L : Lent arena h w n) where
   pub lent-kept : (h′ w′ : List ℕ) → length h′ ≡ length h → length w′ ≡ length w → Lent arena h′ w′ n
   lent-kept h′ w′ eh ew = record { any = L .any; most = L .most; entries = L .entries; long = eh ∙ L .long; room = omega (arith, L .room) }
 
-  -- the hashes put in front, and the words zeroed
-  pub prepared : (b seed : ℕ) (e w′ : List ℕ) → b ≡ bucketsOf n → length e ≡ length (take n h) → length w′ ≡ length w → e ≡ hashesOf seed arena (length (take n h)) → Zero (b + 1 + b + n) w′ → Fresh (e ++ drop n h) w′ n b × (take n (e ++ drop n h) ≡ hashesOf seed arena n)
-  prepared b seed e w′ eb le lw same z = (
-    record {
-      any = L .any;
-      most = L .most;
-      count = eb;
-      long = length-front h e n le ∙ L .long;
-      room = subst (λ (x : ℕ). x + 1 + x + n ≤ length w′) (sym eb) (omega (arith, L .room));
-      zero = z;
-    },
-    take-at e (drop n h) n (le ∙ lent-keys) ∙ same ∙ ap (hashesOf seed arena) lent-keys,
-  )
+  module _ (b : ℕ) (eb : b ≡ bucketsOf n) where
+    room-for : b + 1 + b + n ≤ length w
+    room-for = subst (λ (x : ℕ). x + 1 + x + n ≤ length w) (sym eb) (L .room)
+
+    pub lent-words : length (take (b + 1 + b + n) w) ≡ b + 1 + b + n
+    lent-words = length-take-le (b + 1 + b + n) w room-for
+
+    -- the hashes put in front, and the words zeroed
+    pub prepared : (seed : ℕ) (e e′ : List ℕ) → length e ≡ length (take n h) → length e′ ≡ length (take (b + 1 + b + n) w) → e ≡ hashesOf seed arena (length (take n h)) → e′ ≡ replicate (length (take (b + 1 + b + n) w)) 0
+        → Fresh (e ++ drop n h) (e′ ++ drop (b + 1 + b + n) w) n b × (take n (e ++ drop n h) ≡ hashesOf seed arena n)
+    prepared seed e e′ le lw same z = (
+      record {
+        any = L .any;
+        most = L .most;
+        count = eb;
+        long = length-front h e n le ∙ L .long;
+        room = omega (arith, room-for, length-front w e′ (b + 1 + b + n) lw);
+        zero = zero-front w e′ (b + 1 + b + n) room-for z;
+      },
+      take-at e (drop n h) n (le ∙ lent-keys) ∙ same ∙ ap (hashesOf seed arena) lent-keys,
+    )
 
 -- an attempt over other hashes that are the same
 pub attempted : (hs hs′ : List ℕ) (n b : ℕ) (h w : List ℕ) (r : Bool) → hs ≡ hs′ → Attempted hs n b h w r → Attempted hs′ n b h w r

@@ -1,10 +1,12 @@
 // The keys of an arena, hashed one after another.
+use records::Record;
 use words::field;
 ghost use mathlib.Core.Path.{_≡_};
 ghost use Prim.Native.Nat.{_≤_};
 ghost use lib.ListN.{length};
 ghost use Rattle.mixing.specs.Mixing.{hashOf};
-ghost use Rattle.construct.specs.Keys.{keyAt, nextEntry, hashesOf, Entries};
+ghost use Rattle.records.specs.Places.{keyAt, nextEntry};
+ghost use Rattle.construct.specs.Keys.{hashesOf, Entries};
 
 // The hash of the key of the entry at p.
 fn hash_at(arena: &[u8], p: usize, seed: u64) -> u64
@@ -23,7 +25,7 @@ fn next_entry(arena: &[u8], p: usize) -> usize
 {
     let key = field::u32_at(arena, p) as usize;
     let versions = field::u32_at(arena, p + 4) as usize;
-    p + 8 + key + 21 * versions
+    p + 8 + key + Record::BYTES * versions
 }
 
 // Hashes the first keys of the arena under a seed, one for each place of `hashes`.

@@ -5,7 +5,7 @@ use lib.ListN.{take, drop}
 use Rattle.mixing.specs.Mixing.{hashOf}
 use Rattle.construct.proofs.Benches.{span}
 use native.Mathlib.Omega.{arith}
-use Rattle.construct.specs.Keys.{nextEntry, keyAt}
+use Rattle.records.specs.Places.{keyAt}
 use borrow.Author.Needs.{needs}
 use Rattle.construct.proofs.keys.hash_at.Statement.{statement}
 use Rattle.construct.proofs.keys.hash_at.Tie as tie
@@ -16,12 +16,10 @@ use Rattle.words.proofs.field.u32_at.Reads as u32-at-reads
 
 -- src/keys.rt:14:17
 add-start : tie.Need-add-start
-unfolding nextEntry
 add-start c = omega arith
 
 -- src/keys.rt:15:24
 u32-at-requires : tie.Need-u32-at-requires
-unfolding nextEntry
 u32-at-requires c κs = omega arith
 
 -- src/keys.rt:15:24
@@ -30,7 +28,6 @@ cast-end c = search needs
 
 -- src/keys.rt:15:15
 add-end : tie.Need-add-end
-unfolding nextEntry
 add-end c = omega arith
 
 -- src/keys.rt:16:18
@@ -43,7 +40,6 @@ part-hash-start c = search needs
 
 -- src/keys.rt:16:18
 part-hash-end : tie.Need-part-hash-end
-unfolding nextEntry
 part-hash-end c = omega arith
 
 -- src/keys.rt:16:5

@@ -5,7 +5,8 @@ use denote.Ref.{now}
 use native.Mathlib.Omega.{arith}
 use lib.ListN.{length, take, length-set}
 use lib.Seq.{take-all}
-use Rattle.construct.specs.Keys.{Entries, nextEntry, entryPlace, hashesOf}
+use Rattle.construct.specs.Keys.{Entries, hashesOf}
+use Rattle.records.specs.Places.{nextEntry, entryPlace}
 use Rattle.construct.proofs.KeysLaws.{entry-first, entry-next, entry-rises, hashes-none, hashes-more}
 use borrow.Author.Needs.{needs}
 use Rattle.construct.proofs.keys.hash_keys.Statement.{statement}
@@ -16,11 +17,11 @@ use Rattle.construct.proofs.keys.hash_at.Reads as hash-at-reads
 use Rattle.construct.proofs.keys.next_entry.Reads as next-entry-reads
 
 -- entry i lies inside the arena, where i is less than the n that do
-inside : (arena : List ℕ) (n i p : ℕ) → Entries arena n → p ≡ entryPlace arena i → i < n → nextEntry arena p ≤ length arena
+inside : (arena : List ℕ) (n i p : ℕ) → Entries arena n → p ≡ entryPlace arena 0 i → i < n → nextEntry arena p ≤ length arena
 inside arena n i p E e l = subst (λ (x : ℕ). nextEntry arena x ≤ length arena) (sym e) (omega (arith, entry-rises arena i n l, E))
 
 abbrev Inv-loop : tie.InvT-loop
-Inv-loop arena hashes₀ seed p₀ i₀ hashes p i = (i ≤ length hashes₀) × (length hashes ≡ length hashes₀) × (p ≡ entryPlace arena i) × (take i hashes ≡ hashesOf seed arena i)
+Inv-loop arena hashes₀ seed p₀ i₀ hashes p i = (i ≤ length hashes₀) × (length hashes ≡ length hashes₀) × (p ≡ entryPlace arena 0 i) × (take i hashes ≡ hashesOf seed arena i)
 
 abbrev μ-loop : tie.MeasureT-loop
 μ-loop arena hashes₀ seed p₀ i₀ hashes p i = length hashes₀ - i

@@ -1,5 +1,4 @@
 use native.Mathlib.Omega.{arith}
-use Rattle.construct.specs.Keys.{nextEntry, keyAt}
 use borrow.Author.Needs.{needs}
 use Rattle.construct.proofs.keys.next_entry.Statement.{statement}
 use Rattle.construct.proofs.keys.next_entry.Tie as tie
@@ -9,7 +8,6 @@ use Rattle.words.proofs.field.u32_at.Reads as u32-at-reads
 
 -- src/keys.rt:24:15
 u32-at-requires : tie.Need-u32-at-requires
-unfolding nextEntry
 u32-at-requires c κs = omega arith
 
 -- src/keys.rt:24:15
@@ -18,12 +16,10 @@ cast-key c = search needs
 
 -- src/keys.rt:25:41
 add-u32-at : tie.Need-add-u32-at
-unfolding nextEntry
 add-u32-at c = omega arith
 
 -- src/keys.rt:25:20
 u32-at-requires-2 : tie.Need-u32-at-requires-2
-unfolding nextEntry
 u32-at-requires-2 c κs = omega arith
 
 -- src/keys.rt:25:20
@@ -32,12 +28,10 @@ cast-versions c = search needs
 
 -- src/keys.rt:26:5
 add-result : tie.Need-add-result
-unfolding nextEntry
 add-result c = omega arith
 
 -- src/keys.rt:26:5
 add-result-2 : tie.Need-add-result-2
-unfolding nextEntry
 add-result-2 c = omega arith
 
 -- src/keys.rt:26:19
@@ -46,12 +40,10 @@ mul-result c = search needs
 
 -- src/keys.rt:26:5
 add-result-3 : tie.Need-add-result-3
-unfolding nextEntry
 add-result-3 c = omega arith
 
 -- src/keys.rt:20:1
 returns : tie.Need-returns
-unfolding nextEntry
 returns c = omega arith
 
 pub next-entry-spec : {M : Type 1} → statement M
