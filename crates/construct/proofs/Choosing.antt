@@ -1,5 +1,5 @@
 -- The pilots of an attempt that succeeds: each bucket of two or more has its least, each single-member bucket names the lowest free slot, the empty ones have 0. Assumes nothing.
-use Prim.Native.Nat.{ℕ, zero, suc, _+_, _-_, _≤_, _<_}
+use Prim.Native.Nat.{ℕ, zero, suc, _+_, _-_, _<_}
 use mathlib.Core.Path.{_≡_, refl, sym, ap, _∙_, subst}
 use mathlib.Core.Bool.{Bool, true, false, cond, false≢true}
 use mathlib.Core.List.{List}
@@ -12,10 +12,10 @@ use lib.Seq.{getD-set-same, getD-set-other}
 use Rattle.laws.specs.Steps.{steps, steps-none, steps-more, steps-keep, least, least-found, least-before}
 use Rattle.construct.specs.Construct.{bucketsOf, tries, direct, group, size, settle, seat, Placing, noted, placeGroup, placeSingle, placeOf, placeSize, placeDown, largest, blank, anyTwins, attemptFrom, attemptOf}
 use Rattle.construct.specs.Promised.{Turn, LeastPilot, LowestSlot, Pilots}
-use Rattle.construct.proofs.Slots.{settle-free, settle-some}
+use Rattle.construct.proofs.SlotsLaws.{settle-free, settle-some}
 use Rattle.construct.proofs.Placed.{done, done-others, done-now, done-skips, done-none, done-all, done-turns, of-skips, of-one, of-several}
 use Rattle.construct.proofs.FitsLaws.{seat-fits, unseated}
-use Rattle.construct.proofs.Turns.{size-most, turn-spots}
+use Rattle.construct.proofs.TurnsLaws.{size-most, turn-spots}
 
 -- the pilots of the buckets that D names, and 0 for the others
 record Chosen (hs : List ℕ) (D : ℕ → Bool) (pl : Placing) : Type 0 where

@@ -1,9 +1,9 @@
--- An attempt on lent workspace, the attempts one after another, and the slot of a hash, as their parts answer them.
+-- An attempt on lent workspace, the attempts one after another, and the slot of a hash, as their parts answer them. Assumes nothing.
 use Prim.Native.Nat.{ℕ, _+_, _-_, _≤_, _<_}
 use mathlib.Core.Path.{_≡_, sym, ap, _∙_, subst}
 use mathlib.Core.Bool.{Bool, true, false, cond}
 use mathlib.Core.List.{List, _++_}
-use mathlib.Core.Option.{Option, none, some, Option·some-injective, Option·none-ne-some}
+use mathlib.Core.Option.{none, some, Option·some-injective, Option·none-ne-some}
 use native.Mathlib.Omega.{arith}
 use native.Mathlib.Decide.{ℕ-discrete}
 use native.Mathlib.Numerals.{lt-of-le-of-ne}
@@ -15,8 +15,8 @@ use Rattle.laws.specs.Steps.{least-at, least-of-none}
 use Rattle.construct.specs.Construct.{bucketsOf, direct, attempts, Placing, attemptOf, constructOf, slotBy, indexOf}
 use Rattle.construct.specs.Keys.{Entries, hashesOf, attemptHashes}
 use Rattle.construct.specs.Layout.{placing, Fresh, Lent, Attempted, answerOf, Built}
-use Rattle.construct.proofs.Laying.{zero-front}
 use Rattle.construct.specs.declared.Constructed.the-variants.{Placed, Exhausted}
+use Rattle.construct.proofs.LayingLaws.{zero-front}
 
 -- the workspace lent for the keys of an arena
 module _ (arena h w : List ℕ) (n : ℕ) (L : Lent arena h w n) where

@@ -8,14 +8,13 @@ use lib.ListN.{length}
 use Rattle.laws.specs.Steps.{least-found, least-before, least-none, least-of-none}
 use Rattle.construct.specs.Construct.{attempts, Placing, attemptOf, constructOf}
 use Rattle.construct.specs.Promised.{Whole, Pilots}
-use Rattle.construct.specs.Layout.{answerOf, Built}
+use Rattle.construct.specs.Layout.{answerOf, numberOf, Built}
 use Rattle.construct.specs.declared.Constructed.{Constructed}
-use Rattle.construct.specs.declared.Constructed.the-variants.{Exhausted}
 use Rattle.construct.proofs.Placed.{placed}
 use Rattle.construct.proofs.Choosing.{pilots-least}
 
 module _ (hashes : ℕ → List ℕ) where
-  -- EXHAUSTED EXACTLY WHERE EACH OF THE EIGHT ATTEMPTS FAILS
+  -- none is taken exactly where each of the eight fails
   pub all-fail : constructOf hashes ≡ none → (i : ℕ) → i < 8 → attemptOf (hashes i) ≡ none
   unfolding constructOf attempts
   all-fail h i l = least-none (λ q. attemptOf (hashes q)) 8 0 h i (omega arith) (omega arith)
@@ -37,14 +36,14 @@ module _ (hashes : ℕ → List ℕ) where
       let r = first-taken i pl h in
       (placed (hashes i) (pos i) pl (r .1), pilots-least (hashes i) (pos i) pl (r .1))
 
-  -- the same of what the code answers
+  -- 10 EXACTLY WHERE EACH OF THE EIGHT ATTEMPTS FAILS, of what the code answers
   module _ (n : ℕ) (h w : List ℕ) (r : Constructed) (B : Built hashes n h w r) where
-    pub exhausted-fails : r ≡ Exhausted → (i : ℕ) → i < 8 → attemptOf (hashes i) ≡ none
-    exhausted-fails e = all-fail (unanswered (constructOf hashes) (sym (B .answer) ∙ e))
+    pub ten-fails : numberOf r ≡ 10 → (i : ℕ) → i < 8 → attemptOf (hashes i) ≡ none
+    ten-fails e = all-fail (unanswered (constructOf hashes) (ap numberOf (sym (B .answer)) ∙ e))
       where
-        unanswered : (o : Option (ℕ × Placing)) → answerOf o ≡ Exhausted → o ≡ none
+        unanswered : (o : Option (ℕ × Placing)) → numberOf (answerOf o) ≡ 10 → o ≡ none
         unanswered none z = refl
-        unanswered (some (i, pl)) z = absurd (let q : _≡_ {A = ℕ} 0 1 = cc in omega arith)
+        unanswered (some (i, pl)) z = absurd (omega arith)
 
-    pub fails-exhausted : ((i : ℕ) → i < 8 → attemptOf (hashes i) ≡ none) → r ≡ Exhausted
-    fails-exhausted f = B .answer ∙ ap answerOf (none-left f)
+    pub fails-ten : ((i : ℕ) → i < 8 → attemptOf (hashes i) ≡ none) → numberOf r ≡ 10
+    fails-ten f = ap numberOf (B .answer ∙ ap answerOf (none-left f))

@@ -1,5 +1,5 @@
 -- An attempt fails exactly where two members of a bucket have equal hashes, or a bucket of two or more finds no pilot. Assumes nothing.
-use Prim.Native.Nat.{ℕ, _+_, _-_, _≤_, _<_}
+use Prim.Native.Nat.{ℕ, _-_, _<_}
 use mathlib.Core.Path.{_≡_, refl, sym, ap, _∙_, subst}
 use mathlib.Core.Bool.{Bool, true, false, cond}
 use mathlib.Core.List.{List}
@@ -15,9 +15,9 @@ use Rattle.laws.specs.Steps.{steps, steps-why, least, least-none, least-of-none
 use Rattle.construct.specs.Construct.{bucketsOf, tries, members, group, size, alike, met, twins, twinsAt, anyTwins, seat, Placing, noted, placeGroup, placeOf, placeSize, placeDown, largest, blank, attemptFrom, attemptOf}
 use Rattle.construct.specs.Promised.{Turn, EqualHashes, NoPilot}
 use Rattle.construct.proofs.Placed.{some-buckets, member-of, key-place, of-skips, of-one, of-several}
-use Rattle.construct.proofs.Places.{member-rank}
+use Rattle.construct.proofs.PlacesLaws.{member-rank}
 use Rattle.construct.proofs.FitsLaws.{unseated, unfit}
-use Rattle.construct.proofs.Turns.{turn-spots, slot-free, turn-fails}
+use Rattle.construct.proofs.TurnsLaws.{turn-spots, slot-free, turn-fails}
 
 module _ (hs : List ℕ) where
   -- equal hashes among the members of bucket k, at places i and j

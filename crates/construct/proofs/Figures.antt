@@ -6,7 +6,7 @@ use mathlib.Core.Option.{none, some, bind}
 use native.Mathlib.Omega.{arith}
 use Rattle.mixing.specs.Mixing.{bucketOf, positionOf, bucketOf-lt}
 use Rattle.laws.specs.Steps.{steps, least, anyBelow, greatest}
-use Rattle.construct.specs.Construct.{bucketsOf, tries, direct, members, group, size, alike, met, twins, twinsAt, anyTwins, settle, spot, seat, Placing, noted, placeGroup, placeSingle, placeOf, placeSize, placeDown, largest, blank, attemptFrom, attemptOf}
+use Rattle.construct.specs.Construct.{bucketsOf, tries, direct, members, group, size, alike, met, twins, twinsAt, anyTwins, settle, spot, seat, noted, placeGroup, placeSingle, placeOf, placeSize, placeDown, largest, blank, attemptFrom, attemptOf}
 
 -- P1: 1, 3, 4 and 5 keys have 1, 1, 2 and 2 buckets
 pub buckets-of : (bucketsOf 1 ≡ 1) × (bucketsOf 3 ≡ 1) × (bucketsOf 4 ≡ 2) × (bucketsOf 5 ≡ 2)

@@ -1,6 +1,6 @@
 -- Seating a bucket's members succeeds exactly where the pilot puts them on distinct unoccupied positions. Assumes nothing.
-use Prim.Native.Nat.{ℕ, zero, suc, _+_, _≤_, _<_}
-use mathlib.Core.Path.{_≡_, refl, sym, ap, _∙_, subst}
+use Prim.Native.Nat.{ℕ, zero, suc, _≤_, _<_}
+use mathlib.Core.Path.{_≡_, refl, sym, ap, _∙_}
 use mathlib.Core.List.{List}
 use mathlib.Core.Option.{Option, none, some, Option·some-ne-none}
 use native.Mathlib.Omega.{arith}
@@ -8,10 +8,10 @@ use native.Mathlib.Decide.{ℕ-discrete}
 use native.Mathlib.Numerals.{lt-of-le-of-ne}
 use lib.ListN.{length, getD, set, length-set}
 use lib.Seq.{getD-set-same, getD-set-other}
-use Rattle.laws.specs.Steps.{steps, steps-none, steps-more, steps-keep}
+use Rattle.laws.specs.Steps.{steps-none, steps-more, steps-keep}
 use Rattle.construct.specs.Construct.{settle, spot, seat}
 use Rattle.construct.specs.Promised.{Fits}
-use Rattle.construct.proofs.Slots.{settle-free, settle-some}
+use Rattle.construct.proofs.SlotsLaws.{settle-free, settle-some}
 
 module _ (hs ms : List ℕ) (p : ℕ) (s : List ℕ) (low : (i : ℕ) → spot hs ms p i < length s) where
   -- while j members sit: they fit, their slots are occupied, and none has become free

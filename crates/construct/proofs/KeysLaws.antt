@@ -1,5 +1,5 @@
--- The entries of an arena one after another: they begin where the last ends, and those before an entry inside the arena are inside too; hashes stored one after another.
-use Prim.Native.Nat.{ℕ, zero, suc, _+_, _*_, _≤_, _<_}
+-- The entries of an arena one after another: they begin where the last ends, and those before an entry inside the arena are inside too; hashes stored one after another. Assumes nothing.
+use Prim.Native.Nat.{ℕ, zero, suc, _+_, _≤_, _<_}
 use mathlib.Core.Path.{_≡_, refl, sym, ap, ap₂, _∙_}
 use mathlib.Core.List.{List, [], _∷_, _++_}
 use native.Mathlib.Omega.{arith}

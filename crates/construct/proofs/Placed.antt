@@ -4,7 +4,7 @@ use mathlib.Core.Path.{_≡_, refl, sym, ap, ap₂, _∙_, subst}
 use mathlib.Core.Bool.{Bool, true, false, cond, _||_, _&&_, and-false, and-true, false≢true}
 use mathlib.Core.List.{List}
 use mathlib.Core.Option.{Option, none, some, map-eq-some-iff, map-eq-none-iff, Option·some-injective, Option·none-ne-some, Option·some-ne-none}
-use mathlib.Core.Logic.{_⊎_, inl, inr, ⊎-elim}
+use mathlib.Core.Logic.{inl, inr, ⊎-elim}
 use native.Mathlib.Nat.{zero-add, sub-zero, le-pred-of-lt}
 use native.Mathlib.Omega.{arith}
 use native.Mathlib.Decide.{ℕ-discrete, decLt}
@@ -17,8 +17,8 @@ use Rattle.mixing.specs.Mixing.{bucketOf, positionOf, bucketOf-lt, positionOf-l
 use Rattle.laws.specs.Steps.{steps, steps-keep, least, least-found, least-none, total, total-bump, total-same, total-zero, total-mono, greatest, greatest-above}
 use Rattle.construct.specs.Construct.{bucketsOf, tries, direct, members, group, size, settle, spot, seat, Placing, noted, placeGroup, placeSingle, placeOf, placeSize, placeDown, largest, blank, anyTwins, attemptFrom, attemptOf, slotBy, indexOf}
 use Rattle.construct.specs.Promised.{Whole}
-use Rattle.construct.proofs.Members.{member-key, member-at, count-all}
-use Rattle.construct.proofs.Slots.{filled, filled-none, some-free, none-free, settle-free, Grown, Since, Settled, settled, Seated, seated}
+use Rattle.construct.proofs.MembersLaws.{member-key, member-at, count-all}
+use Rattle.construct.proofs.SlotsLaws.{filled, filled-none, some-free, none-free, settle-free, Grown, Since, Settled, settled, Seated, seated}
 
 -- while the buckets that D names are placed
 pub record Partly (hs : List ℕ) (D : ℕ → Bool) (pl : Placing) : Type 0 where

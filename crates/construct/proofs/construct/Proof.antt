@@ -27,7 +27,11 @@ seed-requires : tie.Need-seed-requires Inv-loop μ-loop
 seed-requires c κs = search needs
 
 attempt-requires : tie.Need-attempt-requires Inv-loop μ-loop
-attempt-requires c κs = (lent-kept _ _ _ _ (c .before .before .before .before .before .before .before .before .before .pre) _ _ (c .before .before .before .before .loop .inv .0) (c .before .before .before .before .loop .inv .1), c .before .before .before .before .before .buckets .ensures)
+attempt-requires c κs =
+    let pre = c .before .before .before .before .before .before .before .before .before .pre in
+    let buckets = c .before .before .before .before .before .buckets in
+    let loop = c .before .before .before .before .loop in
+    (lent-kept _ _ _ _ pre _ _ (loop .inv .0) (loop .inv .1), buckets .ensures)
 
 same-length : tie.Need-same-length Inv-loop μ-loop
 same-length c = search needs

@@ -1,20 +1,17 @@
+-- `construct::keys::hash_keys` meets its contract. The loop's invariant: p is the place of entry i, and the first i hashes stand. Assumes nothing.
 use Prim.Native.Nat.{ℕ, _-_, _≤_, _<_}
 use mathlib.Core.Path.{_≡_, refl, sym, ap, _∙_, subst}
 use mathlib.Core.List.{List}
-use denote.Ref.{now}
 use native.Mathlib.Omega.{arith}
+use denote.Ref.{now}
 use lib.ListN.{length, take, length-set}
 use lib.Seq.{take-all}
-use Rattle.construct.specs.Keys.{Entries, hashesOf}
-use Rattle.records.specs.Places.{nextEntry, entryPlace}
-use Rattle.construct.proofs.KeysLaws.{entry-first, entry-next, entry-rises, hashes-none, hashes-more}
 use borrow.Author.Needs.{needs}
+use Rattle.records.specs.Places.{nextEntry, entryPlace}
+use Rattle.construct.specs.Keys.{Entries, hashesOf}
+use Rattle.construct.proofs.KeysLaws.{entry-first, entry-next, entry-rises, hashes-none, hashes-more}
 use Rattle.construct.proofs.keys.hash_keys.Statement.{statement}
 use Rattle.construct.proofs.keys.hash_keys.Tie as tie
-use Rattle.construct.proofs.keys.hash_keys.Reads as reads
-use Rattle.construct.proofs.keys.hash_keys.Lts as lts
-use Rattle.construct.proofs.keys.hash_at.Reads as hash-at-reads
-use Rattle.construct.proofs.keys.next_entry.Reads as next-entry-reads
 
 -- entry i lies inside the arena, where i is less than the n that do
 inside : (arena : List ℕ) (n i p : ℕ) → Entries arena n → p ≡ entryPlace arena 0 i → i < n → nextEntry arena p ≤ length arena
@@ -26,52 +23,45 @@ Inv-loop arena hashes₀ seed p₀ i₀ hashes p i = (i ≤ length hashes₀) ×
 abbrev μ-loop : tie.MeasureT-loop
 μ-loop arena hashes₀ seed p₀ i₀ hashes p i = length hashes₀ - i
 
--- src/keys.rt:36:5
 loop-holds : tie.Need-loop-holds Inv-loop μ-loop
 loop-holds c = (omega arith, refl, sym (entry-first _), sym (hashes-none _ _))
 
--- src/keys.rt:37:21
 hash-at-requires : tie.Need-hash-at-requires Inv-loop μ-loop
 hash-at-requires c κs = inside _ _ (c .before .loop .i) _ (c .before .before .before .before .pre) (c .before .loop .inv .2) low
   where
     low : c .before .loop .i < length (now (c .before .before .before .before .args .hashes))
     low = omega arith
 
--- src/keys.rt:37:9
 mul-hashes : tie.Need-mul-hashes Inv-loop μ-loop
 mul-hashes c = search needs
 
--- src/keys.rt:37:9
 slice-write-hashes : tie.Need-slice-write-hashes Inv-loop μ-loop
 slice-write-hashes c = search needs
 
--- src/keys.rt:38:9
 next-entry-requires : tie.Need-next-entry-requires Inv-loop μ-loop
-next-entry-requires c κs = inside _ _ (c .before .before .loop .i) _ (c .before .before .before .before .before .pre) (c .before .before .loop .inv .2) low
+next-entry-requires c κs =
+    let pre = c .before .before .before .before .before .pre in
+    let loop = c .before .before .loop in
+    inside _ _ (loop .i) _ pre (loop .inv .2) low
   where
     low : c .before .before .loop .i < length (now (c .before .before .before .before .before .args .hashes))
     low = omega arith
 
--- src/keys.rt:39:9
 add-i : tie.Need-add-i Inv-loop μ-loop
 add-i c = search needs
 
--- src/keys.rt:36:5
 loop-less : tie.Need-loop-less Inv-loop μ-loop
 loop-less c = search needs
 
--- src/keys.rt:36:5
 loop-again : tie.Need-loop-again Inv-loop μ-loop
 loop-again c =
     let w = c .before .before .before .loop .inv in
     let low : c .before .before .before .loop .i < length (c .before .before .before .loop .hashes) = omega arith in
     (omega arith, simp length-set (w .1), c .next-entry .ensures ∙ ap (nextEntry _) (w .2) ∙ sym (entry-next _ _), hashes-more _ _ _ _ _ _ low (w .2) (c .before .hash-at .ensures) (w .3))
 
--- src/keys.rt:30:1
 same-length : tie.Need-same-length Inv-loop μ-loop
 same-length c = search needs
 
--- src/keys.rt:30:1
 returns : tie.Need-returns Inv-loop μ-loop
 returns c =
     let w = c .before .loop .inv in

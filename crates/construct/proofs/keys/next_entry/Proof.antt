@@ -1,48 +1,36 @@
+-- `construct::keys::next_entry` meets its contract. The head, the key and the versions lie inside the arena. Assumes nothing.
 use native.Mathlib.Omega.{arith}
 use borrow.Author.Needs.{needs}
 use Rattle.construct.proofs.keys.next_entry.Statement.{statement}
 use Rattle.construct.proofs.keys.next_entry.Tie as tie
-use Rattle.construct.proofs.keys.next_entry.Reads as reads
-use Rattle.construct.proofs.keys.next_entry.Lts as lts
-use Rattle.words.proofs.field.u32_at.Reads as u32-at-reads
 
--- src/keys.rt:24:15
 u32-at-requires : tie.Need-u32-at-requires
 u32-at-requires c κs = omega arith
 
--- src/keys.rt:24:15
 cast-key : tie.Need-cast-key
 cast-key c = search needs
 
--- src/keys.rt:25:41
 add-u32-at : tie.Need-add-u32-at
 add-u32-at c = omega arith
 
--- src/keys.rt:25:20
 u32-at-requires-2 : tie.Need-u32-at-requires-2
 u32-at-requires-2 c κs = omega arith
 
--- src/keys.rt:25:20
 cast-versions : tie.Need-cast-versions
 cast-versions c = search needs
 
--- src/keys.rt:26:5
 add-result : tie.Need-add-result
 add-result c = omega arith
 
--- src/keys.rt:26:5
 add-result-2 : tie.Need-add-result-2
 add-result-2 c = omega arith
 
--- src/keys.rt:26:19
 mul-result : tie.Need-mul-result
 mul-result c = search needs
 
--- src/keys.rt:26:5
 add-result-3 : tie.Need-add-result-3
 add-result-3 c = omega arith
 
--- src/keys.rt:20:1
 returns : tie.Need-returns
 returns c = omega arith
 

@@ -1,11 +1,11 @@
-use native.Mathlib.Omega.{arith}
-use lib.ListN.{length, getD, set, length-set}
-use Prim.Native.Nat.{ℕ, _+_, _-_, _≤_, _<_, suc}
-use mathlib.Core.Path.{_≡_, refl, sym, ap, _∙_, subst}
-use Rattle.construct.proofs.Benches.{bench-from, bench-to, bench-most, bench-keys, bench-group, span, lent-ready, lent-none, lent-some}
+-- `construct::place::place_group` meets its contract. The search is over the bucket's members and the slots, both lent; its pilot is noted. Assumes nothing.
+use Prim.Native.Nat.{_+_}
+use mathlib.Core.Path.{sym}
 use mathlib.Core.List.{[]}
-use Rattle.construct.specs.Construct.{tries}
+use native.Mathlib.Omega.{arith}
 use borrow.Author.Needs.{needs}
+use Rattle.construct.specs.Construct.{tries}
+use Rattle.construct.proofs.BenchLaws.{bench-inside, bench-keys, bench-group, span, lent-ready, lent-none, lent-some}
 use Rattle.construct.proofs.place.place_group.Statement.{statement}
 use Rattle.construct.proofs.place.place_group.Tie as tie
 
@@ -16,10 +16,10 @@ slice-read-s : tie.Need-slice-read-s
 slice-read-s c = search needs
 
 cast-s : tie.Need-cast-s
-cast-s c = omega (arith, bench-from _ _ _ _ (c .before .before .before .pre .0) _ (c .before .before .before .pre .1), bench-to _ _ _ _ (c .before .before .before .pre .0) _ (c .before .before .before .pre .1), bench-most _ _ _ _ (c .before .before .before .pre .0) _ (c .before .before .before .pre .1), c .before .before .before .pre .0 .most, c .before .before .before .pre .0 .long, c .before .before .before .pre .0 .room)
+cast-s c = omega (arith, bench-inside _ _ _ _ (c .before .before .before .pre .0) _ (c .before .before .before .pre .1))
 
 add-s : tie.Need-add-s
-add-s c = omega (arith, bench-from _ _ _ _ (c .before .before .before .pre .0) _ (c .before .before .before .pre .1), bench-to _ _ _ _ (c .before .before .before .pre .0) _ (c .before .before .before .pre .1), bench-most _ _ _ _ (c .before .before .before .pre .0) _ (c .before .before .before .pre .1), c .before .before .before .pre .0 .most, c .before .before .before .pre .0 .long, c .before .before .before .pre .0 .room)
+add-s c = omega (arith, bench-inside _ _ _ _ (c .before .before .before .pre .0) _ (c .before .before .before .pre .1))
 
 add-e : tie.Need-add-e
 add-e c = search needs
@@ -31,10 +31,10 @@ slice-read-e : tie.Need-slice-read-e
 slice-read-e c = search needs
 
 cast-e : tie.Need-cast-e
-cast-e c = omega (arith, bench-from _ _ _ _ (c .before .before .before .before .pre .0) _ (c .before .before .before .before .pre .1), bench-to _ _ _ _ (c .before .before .before .before .pre .0) _ (c .before .before .before .before .pre .1), bench-most _ _ _ _ (c .before .before .before .before .pre .0) _ (c .before .before .before .before .pre .1), c .before .before .before .before .pre .0 .most, c .before .before .before .before .pre .0 .long, c .before .before .before .before .pre .0 .room)
+cast-e c = omega (arith, bench-inside _ _ _ _ (c .before .before .before .before .pre .0) _ (c .before .before .before .before .pre .1))
 
 add-e-2 : tie.Need-add-e-2
-add-e-2 c = omega (arith, bench-from _ _ _ _ (c .before .before .before .before .pre .0) _ (c .before .before .before .before .pre .1), bench-to _ _ _ _ (c .before .before .before .before .pre .0) _ (c .before .before .before .before .pre .1), bench-most _ _ _ _ (c .before .before .before .before .pre .0) _ (c .before .before .before .before .pre .1), c .before .before .before .before .pre .0 .most, c .before .before .before .before .pre .0 .long, c .before .before .before .before .pre .0 .room)
+add-e-2 c = omega (arith, bench-inside _ _ _ _ (c .before .before .before .before .pre .0) _ (c .before .before .before .before .pre .1))
 
 add-base : tie.Need-add-base
 add-base c = search needs
@@ -46,16 +46,24 @@ slice-aggregate-find-pilot : tie.Need-slice-aggregate-find-pilot
 slice-aggregate-find-pilot c = sym (bench-keys _ _ _ _ (c .before .before .before .before .before .pre .0))
 
 mul-find-pilot : tie.Need-mul-find-pilot
-mul-find-pilot c = omega (arith, bench-from _ _ _ _ (c .before .before .before .before .before .pre .0) _ (c .before .before .before .before .before .pre .1), bench-to _ _ _ _ (c .before .before .before .before .before .pre .0) _ (c .before .before .before .before .before .pre .1), bench-most _ _ _ _ (c .before .before .before .before .before .pre .0) _ (c .before .before .before .before .before .pre .1), c .before .before .before .before .before .pre .0 .most, c .before .before .before .before .before .pre .0 .long, c .before .before .before .before .before .pre .0 .room)
+mul-find-pilot c =
+    let pre = c .before .before .before .before .before .pre in
+    omega (arith, bench-inside _ _ _ _ (pre .0) _ (pre .1))
 
 sub-find-pilot : tie.Need-sub-find-pilot
-sub-find-pilot c = omega (arith, bench-from _ _ _ _ (c .before .before .before .before .before .pre .0) _ (c .before .before .before .before .before .pre .1), bench-to _ _ _ _ (c .before .before .before .before .before .pre .0) _ (c .before .before .before .before .before .pre .1), bench-most _ _ _ _ (c .before .before .before .before .before .pre .0) _ (c .before .before .before .before .before .pre .1), c .before .before .before .before .before .pre .0 .most, c .before .before .before .before .before .pre .0 .long, c .before .before .before .before .before .pre .0 .room)
+sub-find-pilot c =
+    let pre = c .before .before .before .before .before .pre in
+    omega (arith, bench-inside _ _ _ _ (pre .0) _ (pre .1))
 
 part-find-pilot-start : tie.Need-part-find-pilot-start
-part-find-pilot-start c = omega (arith, bench-from _ _ _ _ (c .before .before .before .before .before .pre .0) _ (c .before .before .before .before .before .pre .1), bench-to _ _ _ _ (c .before .before .before .before .before .pre .0) _ (c .before .before .before .before .before .pre .1), bench-most _ _ _ _ (c .before .before .before .before .before .pre .0) _ (c .before .before .before .before .before .pre .1), c .before .before .before .before .before .pre .0 .most, c .before .before .before .before .before .pre .0 .long, c .before .before .before .before .before .pre .0 .room)
+part-find-pilot-start c =
+    let pre = c .before .before .before .before .before .pre in
+    omega (arith, bench-inside _ _ _ _ (pre .0) _ (pre .1))
 
 part-find-pilot-end : tie.Need-part-find-pilot-end
-part-find-pilot-end c = omega (arith, bench-from _ _ _ _ (c .before .before .before .before .before .pre .0) _ (c .before .before .before .before .before .pre .1), bench-to _ _ _ _ (c .before .before .before .before .before .pre .0) _ (c .before .before .before .before .before .pre .1), bench-most _ _ _ _ (c .before .before .before .before .before .pre .0) _ (c .before .before .before .before .before .pre .1), c .before .before .before .before .before .pre .0 .most, c .before .before .before .before .before .pre .0 .long, c .before .before .before .before .before .pre .0 .room)
+part-find-pilot-end c =
+    let pre = c .before .before .before .before .before .pre in
+    omega (arith, bench-inside _ _ _ _ (pre .0) _ (pre .1))
 
 add-find-pilot : tie.Need-add-find-pilot
 add-find-pilot c = search needs
@@ -73,14 +81,21 @@ part-find-pilot-end-2 : tie.Need-part-find-pilot-end-2
 part-find-pilot-end-2 c = search needs
 
 find-pilot-requires : tie.Need-find-pilot-requires
-find-pilot-requires c κs = lent-ready _ _ _ _ (c .before .before .before .before .before .before .before .pre .0) _ (c .before .before .before .before .before .before .before .pre .1) _ (span (c .before .before .before .before .before .before .before .args .b + 1 + c .before .before .before .before .before .before .before .args .b) (c .before .before .before .before .before .before .before .args .n)) _ [] 0 (bench-group _ _ _ _ (c .before .before .before .before .before .before .before .pre .0) _ (c .before .before .before .before .before .before .before .pre .1))
+find-pilot-requires c κs =
+    let pre = c .before .before .before .before .before .before .before .pre in
+    let args = c .before .before .before .before .before .before .before .args in
+    lent-ready _ _ _ _ (pre .0) _ (pre .1) _ (span (args .b + 1 + args .b) (args .n)) _ [] 0 (bench-group _ _ _ _ (pre .0) _ (pre .1))
 
 same-length : tie.Need-same-length
 same-length c = search needs
 
 returns : tie.Need-returns
 unfolding tries
-returns c = lent-none _ _ _ _ (c .before .before .before .before .before .before .before .before .before .before .before .pre .0) _ (c .before .before .before .before .before .before .before .before .before .before .before .pre .1) _ (span (c .before .before .before .before .before .before .before .before .before .before .before .args .b + 1 + c .before .before .before .before .before .before .before .before .before .before .before .args .b) (c .before .before .before .before .before .before .before .before .before .before .before .args .n)) _ _ _ (bench-group _ _ _ _ (c .before .before .before .before .before .before .before .before .before .before .before .pre .0) _ (c .before .before .before .before .before .before .before .before .before .before .before .pre .1)) (c .before .before .before .find-pilot .ensures) (c .if1 .taken)
+returns c =
+    let pre = c .before .before .before .before .before .before .before .before .before .before .before .pre in
+    let args = c .before .before .before .before .before .before .before .before .before .before .before .args in
+    let find-pilot = c .before .before .before .find-pilot in
+    lent-none _ _ _ _ (pre .0) _ (pre .1) _ (span (args .b + 1 + args .b) (args .n)) _ _ _ (bench-group _ _ _ _ (pre .0) _ (pre .1)) (find-pilot .ensures) (c .if1 .taken)
 
 add-w : tie.Need-add-w
 add-w c = search needs
@@ -99,7 +114,11 @@ same-length-2 c = search needs
 
 returns-2 : tie.Need-returns-2
 unfolding tries
-returns-2 c = lent-some _ _ _ _ (c .before .before .before .before .before .before .before .before .before .before .before .pre .0) _ (c .before .before .before .before .before .before .before .before .before .before .before .pre .1) _ (span (c .before .before .before .before .before .before .before .before .before .before .before .args .b + 1 + c .before .before .before .before .before .before .before .before .before .before .before .args .b) (c .before .before .before .before .before .before .before .before .before .before .before .args .n)) _ _ _ (bench-group _ _ _ _ (c .before .before .before .before .before .before .before .before .before .before .before .pre .0) _ (c .before .before .before .before .before .before .before .before .before .before .before .pre .1)) (c .before .before .before .find-pilot .ensures) (c .if1 .left) (c .before .before .before .find-pilot .kept .1 .1 .0)
+returns-2 c =
+    let pre = c .before .before .before .before .before .before .before .before .before .before .before .pre in
+    let args = c .before .before .before .before .before .before .before .before .before .before .before .args in
+    let find-pilot = c .before .before .before .find-pilot in
+    lent-some _ _ _ _ (pre .0) _ (pre .1) _ (span (args .b + 1 + args .b) (args .n)) _ _ _ (bench-group _ _ _ _ (pre .0) _ (pre .1)) (find-pilot .ensures) (c .if1 .left) (find-pilot .kept .1 .1 .0)
 
 pub place-group-spec : {M : Type 1} → statement M
 place-group-spec =

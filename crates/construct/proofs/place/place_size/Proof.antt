@@ -1,12 +1,11 @@
+-- `construct::place::place_size` meets its contract. The loop's invariant: the buckets below k are passed. Assumes nothing.
+use Prim.Native.Nat.{_-_, _≤_}
 use native.Mathlib.Omega.{arith}
-use lib.ListN.{length, getD, set, length-set}
-use Prim.Native.Nat.{ℕ, _+_, _-_, _≤_, _<_, suc}
-use mathlib.Core.Path.{_≡_, refl, sym, ap, _∙_, subst}
 use lib.ListN.{take}
-use Rattle.construct.specs.Construct.{placeOf, placeSize}
-use Rattle.construct.proofs.Benches.{SoFar, so-far-none, so-far-more, so-far-fails, so-far-all, bench-kept, bench-buckets}
 use borrow.Author.Tests.{not-true, not-false}
 use borrow.Author.Needs.{needs}
+use Rattle.construct.specs.Construct.{placeOf, placeSize}
+use Rattle.construct.proofs.BenchLaws.{SoFar, so-far-none, so-far-more, so-far-fails, so-far-all, bench-kept, bench-buckets}
 use Rattle.construct.proofs.place.place_size.Statement.{statement}
 use Rattle.construct.proofs.place.place_size.Tie as tie
 

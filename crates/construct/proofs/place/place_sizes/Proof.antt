@@ -1,12 +1,11 @@
+-- `construct::place::place_sizes` meets its contract. The loop's invariant: the passes of the sizes above s are made. Assumes nothing.
+use Prim.Native.Nat.{_-_, _≤_, _<_}
 use native.Mathlib.Omega.{arith}
-use lib.ListN.{length, getD, set, length-set}
-use Prim.Native.Nat.{ℕ, _+_, _-_, _≤_, _<_, suc}
-use mathlib.Core.Path.{_≡_, refl, sym, ap, _∙_, subst}
 use lib.ListN.{take}
-use Rattle.construct.specs.Construct.{placeSize, placeDown}
-use Rattle.construct.proofs.Benches.{SoFar, down-none, down-more, down-fails, down-all, bench-kept}
 use borrow.Author.Tests.{not-true, not-false}
 use borrow.Author.Needs.{needs}
+use Rattle.construct.specs.Construct.{placeDown}
+use Rattle.construct.proofs.BenchLaws.{SoFar, down-none, down-more, down-fails, down-all, bench-kept}
 use Rattle.construct.proofs.place.place_sizes.Statement.{statement}
 use Rattle.construct.proofs.place.place_sizes.Tie as tie
 

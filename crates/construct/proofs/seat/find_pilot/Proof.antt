@@ -1,12 +1,13 @@
+-- `construct::seat::find_pilot` meets its contract. The loop's invariant: no pilot before p seats the members, and the slots are as they were. Assumes nothing.
+use Prim.Native.Nat.{ℕ, _-_, _≤_, _<_}
+use mathlib.Core.Path.{_≡_, refl, ap, _∙_}
+use mathlib.Core.Option.{none}
 use native.Mathlib.Omega.{arith}
-use lib.ListN.{length, getD, set, length-set}
-use Prim.Native.Nat.{ℕ, _+_, _-_, _≤_, _<_, suc}
-use mathlib.Core.Path.{_≡_, refl, sym, ap, _∙_, subst}
-use mathlib.Core.Option.{some, none}
-use Rattle.construct.specs.Construct.{seat, tries}
-use Rattle.construct.proofs.Seats.{tried-yes, tried-no, search-hit, search-miss}
+use lib.ListN.{length}
 use borrow.Author.Count.{below-more}
 use borrow.Author.Needs.{needs}
+use Rattle.construct.specs.Construct.{seat, tries}
+use Rattle.construct.proofs.SeatsLaws.{tried-yes, tried-no, search-hit, search-miss}
 use Rattle.construct.proofs.seat.find_pilot.Statement.{statement}
 use Rattle.construct.proofs.seat.find_pilot.Tie as tie
 
@@ -20,14 +21,21 @@ loop-holds : tie.Need-loop-holds Inv-loop μ-loop
 loop-holds c = (omega arith, refl, λ q l. absurd (omega arith))
 
 try-pilot-requires : tie.Need-try-pilot-requires Inv-loop μ-loop
-try-pilot-requires c κs = record { of = c .before .before .before .before .before .before .pre .of; same = ap length (c .before .before .loop .inv .1) ∙ c .before .before .before .before .before .before .pre .same }
+try-pilot-requires c κs =
+    let pre = c .before .before .before .before .before .before .pre in
+    let loop = c .before .before .loop in
+    record { of = pre .of; same = ap length (loop .inv .1) ∙ pre .same }
 
 same-length : tie.Need-same-length Inv-loop μ-loop
 same-length c = c .before .before .before .try-pilot .kept .1 .1 .0 ∙ ap length (c .before .before .before .before .before .before .loop .inv .1)
 
 returns : tie.Need-returns Inv-loop μ-loop
 unfolding tries
-returns c = search-hit _ _ _ _ (c .before .before .before .before .before .before .loop .inv .2) _ (c .before .before .before .before .before .loop-test .taken) (tried-yes _ _ _ _ _ _ _ (c .before .before .before .before .before .before .loop .inv .1) (c .before .before .before .try-pilot .ensures) (c .if1 .taken))
+returns c =
+    let loop = c .before .before .before .before .before .before .loop in
+    let low : loop .p < 100000 = omega arith in
+    let try-pilot = c .before .before .before .try-pilot in
+    search-hit _ _ _ _ (loop .inv .2) _ low (tried-yes _ _ _ _ _ _ _ (loop .inv .1) (try-pilot .ensures) (c .if1 .taken))
 
 add-p : tie.Need-add-p Inv-loop μ-loop
 add-p c = search needs

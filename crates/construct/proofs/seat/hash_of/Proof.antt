@@ -1,7 +1,5 @@
+-- `construct::seat::hash_of` meets its contract. A member is a key, and its hash is read. Assumes nothing.
 use native.Mathlib.Omega.{arith}
-use lib.ListN.{length, getD, set, length-set}
-use Prim.Native.Nat.{ℕ, _+_, _-_, _≤_, _<_, suc}
-use mathlib.Core.Path.{_≡_, refl, sym, ap, _∙_, subst}
 use borrow.Author.Needs.{needs}
 use Rattle.construct.proofs.seat.hash_of.Statement.{statement}
 use Rattle.construct.proofs.seat.hash_of.Tie as tie

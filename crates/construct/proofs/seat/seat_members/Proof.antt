@@ -1,11 +1,12 @@
+-- `construct::seat::seat_members` meets its contract. The loop's invariant: the first j members sit. Assumes nothing.
+use Prim.Native.Nat.{_-_, _≤_}
+use mathlib.Core.Path.{_≡_, refl}
+use mathlib.Core.Option.{some}
 use native.Mathlib.Omega.{arith}
-use lib.ListN.{length, getD, set, length-set}
-use Prim.Native.Nat.{ℕ, _+_, _-_, _≤_, _<_, suc}
-use mathlib.Core.Path.{_≡_, refl, sym, ap, _∙_, subst}
-use mathlib.Core.Option.{some, none}
-use Rattle.construct.specs.Construct.{seat}
-use Rattle.construct.proofs.Seats.{seat-none, seat-more, seat-stuck}
+use lib.ListN.{length, length-set}
 use borrow.Author.Needs.{needs}
+use Rattle.construct.specs.Construct.{seat}
+use Rattle.construct.proofs.SeatsLaws.{seat-none, seat-more, seat-stuck}
 use Rattle.construct.proofs.seat.seat_members.Statement.{statement}
 use Rattle.construct.proofs.seat.seat_members.Tie as tie
 
@@ -42,10 +43,18 @@ shared-slice-read-slots : tie.Need-shared-slice-read-slots Inv-loop μ-loop
 shared-slice-read-slots c = search needs
 
 add-slots : tie.Need-add-slots Inv-loop μ-loop
-add-slots c = omega (arith, (c .before .before .before .before .before .before .before .before .before .pre .of .keys (c .before .before .before .before .before .loop .j) (c .before .before .before .before .loop-test .taken)), c .before .before .before .before .before .before .before .before .before .pre .of .most)
+add-slots c =
+    let pre = c .before .before .before .before .before .before .before .before .before .pre in
+    let loop = c .before .before .before .before .before .loop in
+    let loop-test = c .before .before .before .before .loop-test in
+    omega (arith, (pre .of .keys (loop .j) (loop-test .taken)), pre .of .most)
 
 cast-slots : tie.Need-cast-slots Inv-loop μ-loop
-cast-slots c = omega (arith, (c .before .before .before .before .before .before .before .before .before .pre .of .keys (c .before .before .before .before .before .loop .j) (c .before .before .before .before .loop-test .taken)), c .before .before .before .before .before .before .before .before .before .pre .of .most)
+cast-slots c =
+    let pre = c .before .before .before .before .before .before .before .before .before .pre in
+    let loop = c .before .before .before .before .before .loop in
+    let loop-test = c .before .before .before .before .loop-test in
+    omega (arith, (pre .of .keys (loop .j) (loop-test .taken)), pre .of .most)
 
 mul-slots-2 : tie.Need-mul-slots-2 Inv-loop μ-loop
 mul-slots-2 c = search needs

@@ -1,8 +1,8 @@
 -- `construct::seat::spot_of` meets its contract: the position of the member's hash, with the bound of `mixing`. Assumes nothing.
 use Prim.Native.Nat.{ℕ, _<_}
-use mathlib.Core.Path.{_≡_, sym, ap, _∙_, subst}
-use lib.ListN.{length}
+use mathlib.Core.Path.{sym, ap, _∙_, subst}
 use denote.Ref.{now}
+use lib.ListN.{length}
 use borrow.Author.Needs.{needs}
 use Rattle.mixing.specs.Mixing.{positionOf, positionOf-lt}
 use Rattle.construct.specs.Construct.{spot}

@@ -1,9 +1,7 @@
-use native.Mathlib.Omega.{arith}
-use lib.ListN.{length, getD, set, length-set}
-use Prim.Native.Nat.{ℕ, _+_, _-_, _≤_, _<_, suc}
-use mathlib.Core.Path.{_≡_, refl, sym, ap, _∙_, subst}
-use Rattle.construct.proofs.Seats.{sat-all, sat-few}
+-- `construct::seat::try_pilot` meets its contract. All members sit, or those that do are taken off again. Assumes nothing.
+use mathlib.Core.Path.{_∙_}
 use borrow.Author.Needs.{needs}
+use Rattle.construct.proofs.SeatsLaws.{sat-all, sat-few}
 use Rattle.construct.proofs.seat.try_pilot.Statement.{statement}
 use Rattle.construct.proofs.seat.try_pilot.Tie as tie
 
@@ -17,13 +15,20 @@ returns : tie.Need-returns
 returns c = sat-all _ _ _ _ _ _ (c .before .before .before .seat-members .ensures) (c .if1 .taken)
 
 unseat-requires : tie.Need-unseat-requires
-unseat-requires c κs = (record { of = c .before .before .before .before .before .before .before .before .before .pre .of; same = c .before .before .before .before .seat-members .kept .1 .1 .0 ∙ c .before .before .before .before .before .before .before .before .before .pre .same }, c .before .before .before .before .seat-members .ensures .most)
+unseat-requires c κs =
+    let pre = c .before .before .before .before .before .before .before .before .before .pre in
+    let seat-members = c .before .before .before .before .seat-members in
+    (record { of = pre .of; same = seat-members .kept .1 .1 .0 ∙ pre .same }, seat-members .ensures .most)
 
 same-length-2 : tie.Need-same-length-2
 same-length-2 c = search needs
 
 returns-2 : tie.Need-returns-2
-returns-2 c = (sat-few _ _ _ _ _ _ (c .before .before .before .before .before .before .before .seat-members .ensures) (c .before .before .before .before .if1 .left), c .before .before .unseat .ensures _ (c .before .before .before .before .before .before .before .seat-members .ensures .seats))
+returns-2 c =
+    let seat-members = c .before .before .before .before .before .before .before .seat-members in
+    let if1 = c .before .before .before .before .if1 in
+    let unseat = c .before .before .unseat in
+    (sat-few _ _ _ _ _ _ (seat-members .ensures) (if1 .left), unseat .ensures _ (seat-members .ensures .seats))
 
 pub try-pilot-spec : {M : Type 1} → statement M
 try-pilot-spec =

@@ -1,12 +1,13 @@
-use native.Mathlib.Omega.{arith}
-use lib.ListN.{length, getD, set, length-set}
-use Prim.Native.Nat.{ℕ, _+_, _-_, _≤_, _<_, suc}
-use mathlib.Core.Path.{_≡_, refl, sym, ap, _∙_, subst}
+-- `construct::seat::unseat` meets its contract. The loop's invariant: of the members that sat, the first j still do. Assumes nothing.
+use Prim.Native.Nat.{ℕ, _≤_}
+use mathlib.Core.Path.{_≡_}
 use mathlib.Core.List.{List}
-use mathlib.Core.Option.{some, none}
-use Rattle.construct.specs.Construct.{seat}
-use Rattle.construct.proofs.Seats.{seat-off, seat-back}
+use mathlib.Core.Option.{some}
+use native.Mathlib.Omega.{arith}
+use lib.ListN.{length, length-set}
 use borrow.Author.Needs.{needs}
+use Rattle.construct.specs.Construct.{seat}
+use Rattle.construct.proofs.SeatsLaws.{seat-off, seat-back}
 use Rattle.construct.proofs.seat.unseat.Statement.{statement}
 use Rattle.construct.proofs.seat.unseat.Tie as tie
 

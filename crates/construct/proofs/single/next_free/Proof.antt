@@ -1,10 +1,10 @@
+-- `construct::single::next_free` meets its contract. The loop's invariant: the slots below `at` are taken. Assumes nothing.
+use Prim.Native.Nat.{_-_, _≤_}
 use native.Mathlib.Omega.{arith}
-use lib.ListN.{length, getD, set, length-set}
-use Prim.Native.Nat.{ℕ, _+_, _-_, _≤_, _<_, suc}
-use mathlib.Core.Path.{_≡_, refl, sym, ap, _∙_, subst}
-use Rattle.construct.specs.Layout.{Taken, Lowest}
+use lib.ListN.{length}
 use borrow.Author.Count.{below-more}
 use borrow.Author.Needs.{needs}
+use Rattle.construct.specs.Layout.{Taken}
 use Rattle.construct.proofs.single.next_free.Statement.{statement}
 use Rattle.construct.proofs.single.next_free.Tie as tie
 

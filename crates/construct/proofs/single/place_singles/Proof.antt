@@ -1,13 +1,13 @@
-use native.Mathlib.Omega.{arith}
-use lib.ListN.{length, getD, set, length-set}
-use Prim.Native.Nat.{ℕ, _+_, _-_, _≤_, _<_, suc}
-use mathlib.Core.Path.{_≡_, refl, sym, ap, _∙_, subst}
+-- `construct::single::place_singles` meets its contract. The loop's invariant: the buckets below k are passed, and the slots below `from` are taken. Assumes nothing.
+use Prim.Native.Nat.{_-_, _≤_}
+use mathlib.Core.Path.{refl, _∙_}
 use mathlib.Core.Bool.{true, false}
+use native.Mathlib.Omega.{arith}
 use lib.ListN.{take}
+use borrow.Author.Needs.{needs}
 use Rattle.construct.specs.Construct.{placeOf, placeSize}
 use Rattle.construct.specs.Layout.{placing, Taken}
-use Rattle.construct.proofs.Benches.{SoFar, so-far-none, so-far-more, so-far-fails, so-far-all, bench-kept, bench-buckets}
-use borrow.Author.Needs.{needs}
+use Rattle.construct.proofs.BenchLaws.{SoFar, so-far-none, so-far-more, so-far-fails, so-far-all, bench-kept, bench-buckets}
 use Rattle.construct.proofs.single.place_singles.Statement.{statement}
 use Rattle.construct.proofs.single.place_singles.Tie as tie
 

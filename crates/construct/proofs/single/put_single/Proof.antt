@@ -1,11 +1,11 @@
+-- `construct::single::put_single` meets its contract. Two stores: the slot, and the pilot that names it. Assumes nothing.
+use mathlib.Core.Path.{refl}
 use native.Mathlib.Omega.{arith}
-use lib.ListN.{length, getD, set, length-set}
-use Prim.Native.Nat.{ℕ, _+_, _-_, _≤_, _<_, suc}
-use mathlib.Core.Path.{_≡_, refl, sym, ap, _∙_, subst}
-use Rattle.construct.specs.Construct.{direct}
-use Rattle.construct.proofs.Benches.{bench-from, bench-to, bench-most}
-use Rattle.construct.proofs.Singles.{single-key}
+use lib.ListN.{length-set}
 use borrow.Author.Needs.{needs}
+use Rattle.construct.specs.Construct.{direct}
+use Rattle.construct.proofs.BenchLaws.{bench-inside}
+use Rattle.construct.proofs.SinglesLaws.{single-key}
 use Rattle.construct.proofs.single.put_single.Statement.{statement}
 use Rattle.construct.proofs.single.put_single.Tie as tie
 
@@ -16,22 +16,26 @@ slice-read-s : tie.Need-slice-read-s
 slice-read-s c = search needs
 
 cast-s : tie.Need-cast-s
-cast-s c = omega (arith, bench-from _ _ _ _ (c .before .pre .0) _ (c .before .pre .1 .0), bench-to _ _ _ _ (c .before .pre .0) _ (c .before .pre .1 .0), bench-most _ _ _ _ (c .before .pre .0) _ (c .before .pre .1 .0), c .before .pre .0 .most, c .before .pre .0 .long, c .before .pre .0 .room, c .before .pre .1 .1)
+cast-s c = omega (arith, bench-inside _ _ _ _ (c .before .pre .0) _ (c .before .pre .1 .0), c .before .pre .1 .1)
 
 add-s : tie.Need-add-s
-add-s c = omega (arith, bench-from _ _ _ _ (c .before .pre .0) _ (c .before .pre .1 .0), bench-to _ _ _ _ (c .before .pre .0) _ (c .before .pre .1 .0), bench-most _ _ _ _ (c .before .pre .0) _ (c .before .pre .1 .0), c .before .pre .0 .most, c .before .pre .0 .long, c .before .pre .0 .room, c .before .pre .1 .1)
+add-s c = omega (arith, bench-inside _ _ _ _ (c .before .pre .0) _ (c .before .pre .1 .0), c .before .pre .1 .1)
 
 mul-m : tie.Need-mul-m
-mul-m c = omega (arith, bench-from _ _ _ _ (c .before .pre .0) _ (c .before .pre .1 .0), bench-to _ _ _ _ (c .before .pre .0) _ (c .before .pre .1 .0), bench-most _ _ _ _ (c .before .pre .0) _ (c .before .pre .1 .0), c .before .pre .0 .most, c .before .pre .0 .long, c .before .pre .0 .room, c .before .pre .1 .1)
+mul-m c = omega (arith, bench-inside _ _ _ _ (c .before .pre .0) _ (c .before .pre .1 .0), c .before .pre .1 .1)
 
 shared-slice-read-m : tie.Need-shared-slice-read-m
-shared-slice-read-m c = omega (arith, bench-from _ _ _ _ (c .before .before .pre .0) _ (c .before .before .pre .1 .0), bench-to _ _ _ _ (c .before .before .pre .0) _ (c .before .before .pre .1 .0), bench-most _ _ _ _ (c .before .before .pre .0) _ (c .before .before .pre .1 .0), c .before .before .pre .0 .most, c .before .before .pre .0 .long, c .before .before .pre .0 .room, c .before .before .pre .1 .1)
+shared-slice-read-m c = omega (arith, bench-inside _ _ _ _ (c .before .before .pre .0) _ (c .before .before .pre .1 .0), c .before .before .pre .1 .1)
 
 add-w : tie.Need-add-w
-add-w c = omega (arith, single-key _ _ _ _ (c .before .before .pre .0) _ (c .before .before .pre .1 .0) (c .before .before .pre .1 .1), c .before .before .pre .0 .most)
+add-w c =
+    let pre = c .before .before .pre in
+    omega (arith, single-key _ _ _ _ (pre .0) _ (pre .1 .0) (pre .1 .1), pre .0 .most)
 
 cast-w : tie.Need-cast-w
-cast-w c = omega (arith, single-key _ _ _ _ (c .before .before .pre .0) _ (c .before .before .pre .1 .0) (c .before .before .pre .1 .1), c .before .before .pre .0 .most)
+cast-w c =
+    let pre = c .before .before .pre in
+    omega (arith, single-key _ _ _ _ (pre .0) _ (pre .1 .0) (pre .1 .1), pre .0 .most)
 
 add-w-2 : tie.Need-add-w-2
 add-w-2 c = search needs

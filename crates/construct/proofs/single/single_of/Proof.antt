@@ -1,10 +1,9 @@
+-- `construct::single::single_of` meets its contract. The lowest free slot is looked for where the last search stopped. Assumes nothing.
+use Prim.Native.Nat.{_+_}
 use native.Mathlib.Omega.{arith}
-use lib.ListN.{length, getD, set, length-set}
-use Prim.Native.Nat.{ℕ, _+_, _-_, _≤_, _<_, suc}
-use mathlib.Core.Path.{_≡_, refl, sym, ap, _∙_, subst}
-use Rattle.construct.proofs.Benches.{bench-from, bench-to, span}
-use Rattle.construct.proofs.Singles.{single-other, lent-taken, single-full, single-low, single-put}
 use borrow.Author.Needs.{needs}
+use Rattle.construct.proofs.BenchLaws.{bench-inside, span}
+use Rattle.construct.proofs.SinglesLaws.{single-other, lent-taken, single-full, single-put}
 use Rattle.construct.proofs.single.single_of.Statement.{statement}
 use Rattle.construct.proofs.single.single_of.Tie as tie
 
@@ -24,10 +23,12 @@ slice-read-if1-2 : tie.Need-slice-read-if1-2
 slice-read-if1-2 c = search needs
 
 sub-if1 : tie.Need-sub-if1
-sub-if1 c = omega (arith, bench-from _ _ _ _ (c .before .before .before .before .pre .0) _ (c .before .before .before .before .pre .1 .0), bench-to _ _ _ _ (c .before .before .before .before .pre .0) _ (c .before .before .before .before .pre .1 .0))
+sub-if1 c = omega (arith, bench-inside _ _ _ _ (c .before .before .before .before .pre .0) _ (c .before .before .before .before .pre .1 .0))
 
 returns : tie.Need-returns
-returns c = single-other _ _ _ _ (c .before .before .before .before .before .pre .0) _ (c .before .before .before .before .before .pre .1 .0) _ (c .before .before .before .before .before .pre .1 .1) (c .before .before .before .before .before .pre .1 .2) (c .if1 .taken)
+returns c =
+    let pre = c .before .before .before .before .before .pre in
+    single-other _ _ _ _ (pre .0) _ (pre .1 .0) _ (pre .1 .1) (pre .1 .2) (c .if1 .taken)
 
 add-base : tie.Need-add-base
 add-base c = search needs
@@ -51,7 +52,10 @@ part-next-free-end : tie.Need-part-next-free-end
 part-next-free-end c = search needs
 
 next-free-requires : tie.Need-next-free-requires
-next-free-requires c κs = lent-taken _ _ _ _ (c .before .before .before .before .before .before .before .pre .0) _ (c .before .before .before .before .before .before .before .pre .1 .0) _ (span (c .before .before .before .before .before .before .before .args .b + 1 + c .before .before .before .before .before .before .before .args .b) (c .before .before .before .before .before .before .before .args .n)) _ (c .before .before .before .before .before .before .before .pre .1 .1) (c .before .before .before .before .before .before .before .pre .1 .2)
+next-free-requires c κs =
+    let pre = c .before .before .before .before .before .before .before .pre in
+    let args = c .before .before .before .before .before .before .before .args in
+    lent-taken _ _ _ _ (pre .0) _ (pre .1 .0) _ (span (args .b + 1 + args .b) (args .n)) _ (pre .1 .1) (pre .1 .2)
 
 add-result : tie.Need-add-result
 add-result c = search needs
@@ -60,7 +64,12 @@ same-length : tie.Need-same-length
 same-length c = search needs
 
 returns-2 : tie.Need-returns-2
-returns-2 c = single-full _ _ _ _ (c .before .before .before .before .before .before .before .before .before .pre .0) _ (c .before .before .before .before .before .before .before .before .before .pre .1 .0) _ (span (c .before .before .before .before .before .before .before .before .before .args .b + 1 + c .before .before .before .before .before .before .before .before .before .args .b) (c .before .before .before .before .before .before .before .before .before .args .n)) (c .before .before .before .before .if1 .left) _ (c .before .next-free .ensures) (c .if2 .taken)
+returns-2 c =
+    let pre = c .before .before .before .before .before .before .before .before .before .pre in
+    let args = c .before .before .before .before .before .before .before .before .before .args in
+    let if1 = c .before .before .before .before .if1 in
+    let next-free = c .before .next-free in
+    single-full _ _ _ _ (pre .0) _ (pre .1 .0) _ (span (args .b + 1 + args .b) (args .n)) (if1 .left) _ (next-free .ensures) (c .if2 .taken)
 
 put-single-requires : tie.Need-put-single-requires
 put-single-requires c κs = search needs
@@ -72,7 +81,14 @@ same-length-2 : tie.Need-same-length-2
 same-length-2 c = search needs
 
 returns-3 : tie.Need-returns-3
-returns-3 c = single-put _ _ _ _ (c .before .before .before .before .before .before .before .before .before .before .before .before .before .pre .0) _ (c .before .before .before .before .before .before .before .before .before .before .before .before .before .pre .1 .0) _ (span (c .before .before .before .before .before .before .before .before .before .before .before .before .before .args .b + 1 + c .before .before .before .before .before .before .before .before .before .before .before .before .before .args .b) (c .before .before .before .before .before .before .before .before .before .before .before .before .before .args .n)) (c .before .before .before .before .before .before .before .before .if1 .left) _ (c .before .before .before .before .before .next-free .ensures) (c .before .before .before .before .if2 .left) _ (c .before .before .put-single .ensures)
+returns-3 c =
+    let pre = c .before .before .before .before .before .before .before .before .before .before .before .before .before .pre in
+    let args = c .before .before .before .before .before .before .before .before .before .before .before .before .before .args in
+    let if1 = c .before .before .before .before .before .before .before .before .if1 in
+    let next-free = c .before .before .before .before .before .next-free in
+    let if2 = c .before .before .before .before .if2 in
+    let put-single = c .before .before .put-single in
+    single-put _ _ _ _ (pre .0) _ (pre .1 .0) _ (span (args .b + 1 + args .b) (args .n)) (if1 .left) _ (next-free .ensures) (if2 .left) _ (put-single .ensures)
 
 pub single-of-spec : {M : Type 1} → statement M
 single-of-spec =

@@ -1,11 +1,12 @@
+-- `construct::twins::has_twins` meets its contract. The loop's invariant: no member before j has met its hash. Assumes nothing.
+use Prim.Native.Nat.{_-_, _≤_}
+use mathlib.Core.Path.{_≡_, sym, ap, _∙_}
+use mathlib.Core.Bool.{false}
 use native.Mathlib.Omega.{arith}
-use lib.ListN.{length, getD, set, length-set}
-use Prim.Native.Nat.{ℕ, _+_, _-_, _≤_, _<_, suc}
-use mathlib.Core.Path.{_≡_, refl, sym, ap, _∙_, subst}
-use mathlib.Core.Bool.{false, true}
+use lib.ListN.{length}
+use borrow.Author.Needs.{needs}
 use Rattle.laws.specs.Steps.{anyBelow, any-none, any-hit, any-miss}
 use Rattle.construct.specs.Construct.{met, twins}
-use borrow.Author.Needs.{needs}
 use Rattle.construct.proofs.twins.has_twins.Statement.{statement}
 use Rattle.construct.proofs.twins.has_twins.Tie as tie
 

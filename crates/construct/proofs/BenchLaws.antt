@@ -1,4 +1,4 @@
--- The workspace while buckets are placed: what a step reads of it, and what it leaves.
+-- The workspace while buckets are placed: what a step reads of it, and what it leaves. Assumes nothing.
 use Prim.Native.Nat.{ℕ, suc, _+_, _-_, _≤_, _<_}
 use mathlib.Core.Path.{_≡_, refl, sym, ap, ap₂, _∙_, subst}
 use mathlib.Core.Bool.{Bool, true, false, false≢true}
@@ -14,8 +14,8 @@ use Rattle.construct.specs.Construct.{bucketsOf, tries, group, size, sea
 use Rattle.construct.specs.Seating.{Keys, Ready, Searched}
 use Rattle.construct.specs.Layout.{start, placing, Bench, Stepped}
 use Rattle.construct.proofs.Placed.{member-of, of-skips, of-several}
-use Rattle.construct.proofs.Places.{start-next, start-all, start-rises}
-use Rattle.construct.proofs.Parts.{part, back, set-inside, set-before, back-inside, back-before}
+use Rattle.construct.proofs.PlacesLaws.{start-next, start-all, start-rises}
+use Rattle.construct.proofs.PartsLaws.{part, back, set-inside, set-before, back-inside, back-before}
 
 pub span : (a n : ℕ) → a + n - a ≡ n
 span a n = omega arith
@@ -132,6 +132,23 @@ module _ (h w : List ℕ) (n b : ℕ) (B : Bench h w n b) where
       lent-some f z len =
           subst (λ (x : ℕ). Stepped (placeGroup (take n h) k (placing n b w)) n b w (set (back (b + 1 + b) x t w) (b + 1 + k) r) true) (sym em)
           (group-some ms t r e (subst (λ (x : ℕ). Searched (take n h) ms (part (b + 1 + b) x w) t r) em f) z (len ∙ ap (λ (x : ℕ). length (part (b + 1 + b) x w)) em ∙ bench-slots))
+
+-- what a read of bucket k's two ends needs: they lie in order, and all of it inside the workspace
+pub record Inside (h w : List ℕ) (n b k : ℕ) : Type 0 where
+  pub ends : getD w k 0 ≤ getD w (k + 1) 0
+  pub last : getD w (k + 1) 0 ≤ n
+  pub few : n < 2147483648
+  pub long : length h ≡ n + n
+  pub room : b + 1 + b + n ≤ length w
+
+pub bench-inside : (h w : List ℕ) (n b : ℕ) (B : Bench h w n b) (k : ℕ) → k < b → Inside h w n b k
+bench-inside h w n b B k l = record {
+  ends = omega (arith, bench-from h w n b B k l, bench-to h w n b B k l);
+  last = omega (arith, bench-to h w n b B k l, bench-most h w n b B k l);
+  few = B .most;
+  long = B .long;
+  room = B .room;
+}
 
 -- a bucket's size, as its two ends tell it; one of another size is passed over
 module _ (h w : List ℕ) (n b : ℕ) (B : Bench h w n b) (k : ℕ) (l : k < b) where

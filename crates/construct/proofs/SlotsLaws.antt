@@ -1,18 +1,17 @@
--- Slots: what a settled key leaves as it was, and how many slots are filled.
+-- Slots: what a settled key leaves as it was, and how many slots are filled. Assumes nothing.
 use Prim.Native.Nat.{ℕ, zero, suc, _+_, _≤_, _<_}
 use mathlib.Core.Path.{_≡_, refl, sym, ap, _∙_, subst}
-use mathlib.Core.Bool.{Bool, true, false, cond}
+use mathlib.Core.Bool.{Bool, cond}
 use mathlib.Core.List.{List, [], _∷_}
-use mathlib.Core.Option.{Option, none, some, Option·some-injective, Option·none-ne-some}
+use mathlib.Core.Option.{none, some, Option·some-injective, Option·none-ne-some}
 use mathlib.Core.Logic.{_⊎_, inl, inr, ⊎-elim}
 use native.Mathlib.Omega.{arith}
 use native.Mathlib.Decide.{ℕ-discrete}
 use native.Mathlib.Numerals.{lt-of-le-of-ne}
 use lib.ListN.{length, getD, set, replicate, length-set}
 use lib.Seq.{getD-set-same, getD-set-other}
-use lib.Dec.{eqb}
 use borrow.Author.Tests.{eq-eqb, ne-eqb}
-use Rattle.laws.specs.Steps.{steps, steps-keep}
+use Rattle.laws.specs.Steps.{steps-keep}
 use Rattle.construct.specs.Construct.{settle, spot, seat}
 
 -- how many slots are not free

@@ -1,17 +1,17 @@
--- Seating one member after another: one more, one that cannot be, and one taken off again.
-use Prim.Native.Nat.{ℕ, zero, suc, _+_, _-_, _≤_, _<_}
-use mathlib.Core.Path.{_≡_, refl, sym, ap, _∙_, subst}
+-- Seating one member after another: one more, one that cannot be, and one taken off again. Assumes nothing.
+use Prim.Native.Nat.{ℕ, suc, _+_, _-_, _≤_, _<_}
+use mathlib.Core.Path.{_≡_, sym, ap, _∙_}
 use mathlib.Core.List.{List}
 use mathlib.Core.Bool.{Bool, true, false, false≢true}
-use mathlib.Core.Option.{Option, none, some, Option·some-injective}
+use mathlib.Core.Option.{none, some, Option·some-injective}
 use native.Mathlib.Numerals.{add-one, lt-of-le-of-ne}
 use native.Mathlib.Omega.{arith}
 use lib.ListN.{length, getD, set}
 use lib.Seq.{set-set, set-getD}
-use Rattle.laws.specs.Steps.{steps, steps-none, steps-more, steps-failed, steps-last, least, least-at, least-of-none}
+use Rattle.laws.specs.Steps.{steps-none, steps-more, steps-failed, steps-last, least-at, least-of-none}
 use Rattle.construct.specs.Construct.{tries, settle, spot, seat}
 use Rattle.construct.specs.Seating.{SeatedTo, Tried, Searched}
-use Rattle.construct.proofs.Slots.{settle-free, settle-taken, settle-some}
+use Rattle.construct.proofs.SlotsLaws.{settle-free, settle-taken, settle-some}
 
 module _ (hs ms : List ℕ) (p : ℕ) where
   pub seat-none : (s : List ℕ) → seat hs ms p 0 s ≡ some s

@@ -1,4 +1,4 @@
--- A single bucket takes the lowest free slot.
+-- A single bucket takes the lowest free slot. Assumes nothing.
 use Prim.Native.Nat.{ℕ, suc, _+_, _-_, _≤_, _<_}
 use mathlib.Core.Path.{_≡_, refl, sym, ap, _∙_, subst}
 use mathlib.Core.Bool.{true}
@@ -14,9 +14,9 @@ use Rattle.laws.specs.Steps.{least-at, least-of-none}
 use Rattle.construct.specs.Construct.{direct, group, size, settle, noted, placeSingle, placeOf}
 use Rattle.construct.specs.Layout.{placing, Bench, Stepped, Taken, Lowest, SingleOf}
 use Rattle.construct.proofs.Placed.{member-of, of-one}
-use Rattle.construct.proofs.Slots.{settle-free, settle-taken}
-use Rattle.construct.proofs.Parts.{part, set-inside, set-before, set-behind}
-use Rattle.construct.proofs.Benches.{bench-keys, bench-group, bench-size, bench-slots, same-placing, of-other}
+use Rattle.construct.proofs.SlotsLaws.{settle-free, settle-taken}
+use Rattle.construct.proofs.PartsLaws.{part, set-inside, set-before, set-behind}
+use Rattle.construct.proofs.BenchLaws.{bench-keys, bench-group, bench-size, bench-slots, same-placing, of-other}
 
 module _ (h w : List ℕ) (n b : ℕ) (B : Bench h w n b) (k : ℕ) (l : k < b) (one : getD w (k + 1) 0 - getD w k 0 ≡ 1) where
   -- its member, as it is read
