@@ -20,10 +20,6 @@ use Rattle.construct.proofs.PartsLaws.{part, back, set-inside, set-befo
 pub span : (a n : ℕ) → a + n - a ≡ n
 span a n = omega arith
 
-pub few-buckets : (n : ℕ) → bucketsOf n ≤ n
-unfolding bucketsOf
-few-buckets n = omega arith
-
 -- other words, with the places of the buckets as they were
 pub bench-kept : (h w w′ : List ℕ) (n b : ℕ) → Bench h w n b → length w′ ≡ length w → take (b + 1) w′ ≡ take (b + 1) w → Bench h w′ n b
 bench-kept h w w′ n b B len same = record {
@@ -57,9 +53,6 @@ module _ (h w : List ℕ) (n b : ℕ) (B : Bench h w n b) where
 
   pub bench-buckets : bucketsOf (length (take n h)) ≡ b
   bench-buckets = ap bucketsOf bench-keys ∙ sym (B .count)
-
-  pub bench-low : b ≤ n
-  bench-low = subst (λ (x : ℕ). x ≤ n) (sym (B .count)) (few-buckets n)
 
   module _ (k : ℕ) (l : k < b) where
     low-k : k < bucketsOf (length (take n h))

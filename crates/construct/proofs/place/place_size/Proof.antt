@@ -21,7 +21,9 @@ loop-holds c = (omega arith, so-far-none _ _ _ _)
 place-of-requires : tie.Need-place-of-requires Inv-loop μ-loop
 place-of-requires c κs =
     let s = c .before .before .loop .inv .1 in
-    (bench-kept _ _ _ _ _ (c .before .before .before .before .before .pre .0) (s .long) (s .ends), (c .before .loop-test .taken, c .before .before .before .before .before .pre .1))
+    let pre = c .before .before .before .before .before .pre in
+    let loop-test = c .before .loop-test in
+    (bench-kept _ _ _ _ _ (pre .0) (s .long) (s .ends), (loop-test .taken, pre .1))
 
 same-length : tie.Need-same-length Inv-loop μ-loop
 same-length c = search needs
@@ -29,7 +31,11 @@ same-length c = search needs
 returns : tie.Need-returns Inv-loop μ-loop
 unfolding placeSize
 returns c =
-    so-far-fails _ _ _ _ _ _ (c .before .before .before .place-of .last .1 .0) (c .before .before .before .place-of .result) (c .before .before .before .before .before .before .loop .inv .1) (c .before .before .before .place-of .ensures) _ (omega (arith, c .before .before .before .before .before .loop-test .taken, bench-buckets _ _ _ _ (c .before .before .before .before .before .before .before .before .before .pre .0))) (not-true (c .before .before .before .place-of .result) (c .if1 .taken))
+    let pre = c .before .before .before .before .before .before .before .before .before .pre in
+    let loop = c .before .before .before .before .before .before .loop in
+    let loop-test = c .before .before .before .before .before .loop-test in
+    let place-of = c .before .before .before .place-of in
+    so-far-fails _ _ _ _ _ _ (place-of .last .1 .0) (place-of .result) (loop .inv .1) (place-of .ensures) _ (omega (arith, loop-test .taken, bench-buckets _ _ _ _ (pre .0))) (not-true (place-of .result) (c .if1 .taken))
 
 add-k : tie.Need-add-k Inv-loop μ-loop
 add-k c = search needs
@@ -39,7 +45,9 @@ loop-less c = search needs
 
 loop-again : tie.Need-loop-again Inv-loop μ-loop
 loop-again c =
-    (omega arith, so-far-more _ _ _ _ _ _ (c .before .before .before .place-of .last .1 .0) (c .before .before .before .place-of .result) (c .before .before .before .before .before .before .loop .inv .1) (c .before .before .before .place-of .ensures) (not-false (c .before .before .before .place-of .result) (c .if1 .left)) (c .before .before .before .place-of .kept .1 .0))
+    let loop = c .before .before .before .before .before .before .loop in
+    let place-of = c .before .before .before .place-of in
+    (omega arith, so-far-more _ _ _ _ _ _ (place-of .last .1 .0) (place-of .result) (loop .inv .1) (place-of .ensures) (not-false (place-of .result) (c .if1 .left)) (place-of .kept .1 .0))
 
 same-length-2 : tie.Need-same-length-2 Inv-loop μ-loop
 same-length-2 c = search needs
@@ -47,7 +55,9 @@ same-length-2 c = search needs
 returns-2 : tie.Need-returns-2 Inv-loop μ-loop
 unfolding placeSize
 returns-2 c =
-    so-far-all _ _ _ _ _ _ _ (omega (arith, c .loop-test .left, c .before .loop .inv .0, bench-buckets _ _ _ _ (c .before .before .before .before .pre .0))) (c .before .loop .inv .1)
+    let pre = c .before .before .before .before .pre in
+    let loop = c .before .loop in
+    so-far-all _ _ _ _ _ _ _ (omega (arith, c .loop-test .left, loop .inv .0, bench-buckets _ _ _ _ (pre .0))) (loop .inv .1)
 
 pub place-size-spec : {M : Type 1} → statement M
 place-size-spec =
