@@ -188,6 +188,13 @@ module _ (f : ℕ → Placing → Option Placing) (n b : ℕ) (w₀ : List ℕ) 
         no-part true e g = absurd (false≢true (sym e))
         no-part false e g = g
 
+  -- the same, with the buckets that are left counted down
+  pub left-none : SoFar f (b - b) n b w₀ w₀
+  left-none = subst (λ (i : ℕ). SoFar f i n b w₀ w₀) (omega arith) so-far-none
+
+  pub left-more : (left : ℕ) (w w′ : List ℕ) (r : Bool) → 0 < left → left ≤ b → SoFar f (b - left) n b w₀ w → Stepped (f (b - left) (placing n b w)) n b w w′ r → r ≡ true → length w′ ≡ length w → SoFar f (b - (left - 1)) n b w₀ w′
+  left-more left w w′ r some-left most s g e len = subst (λ (i : ℕ). SoFar f i n b w₀ w′) (omega arith) (so-far-more (b - left) w w′ r s g e len)
+
   pub so-far-all : (i m : ℕ) (w : List ℕ) → i ≡ m → SoFar f i n b w₀ w → Stepped (steps f m (placing n b w₀)) n b w₀ w true
   so-far-all i m w e s = (ap (λ (x : ℕ). steps f x (placing n b w₀)) (sym e) ∙ s .went, s .ends)
 
