@@ -1,0 +1,12 @@
+pub mod CursorLaws
+pub mod KindLaws
+pub mod RuleLaws
+pub mod SearchLaws
+pub mod WalkLaws
+pub mod PassedLaws
+pub mod TableLaws
+pub mod ReadLaws
+pub mod WriteLaws
+pub mod AcceptLaws
+pub mod WithinLaws
+pub mod Theorems
