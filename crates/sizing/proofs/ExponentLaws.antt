@@ -3,7 +3,7 @@
 use mathlib.Core.Path.{_≡_, refl, sym, _∙_, subst}
 use mathlib.Core.Bool.{Bool, true, false, cond, _&&_, and-eq-true-iff, true≢false}
 use mathlib.Core.List.{List, _∷_}
-use Prim.Native.Nat.{ℕ, zero, suc, _+_, _-_, _*_, _^_, _≤_, _<_, max}
+use Prim.Native.Nat.{ℕ, zero, suc, _+_, _-_, _*_, _^_, _≤_, _<_}
 use native.Mathlib.Nat.{le-refl, le-trans, le-step, mul-le-mul-right, pow-le-pow-left}
 use native.Mathlib.Omega.{arith}
 use lib.Dec.{eqb}
@@ -12,7 +12,7 @@ use lib.Pow.{pow-mono}
 use borrow.Author.Tests.{leb-true, le-leb, eqb-true}
 use Rattle.laws.specs.Power.{PowerOfTwo}
 use Rattle.sizing.specs.Table.{leasts}
-use Rattle.sizing.specs.Sizing.{rule, greatest, exponentOf, segmentOf, upTo}
+use Rattle.sizing.specs.Sizing.{rule, greatest, sizedAs, exponentOf, segmentOf, upTo}
 use Rattle.sizing.proofs.Search.{upTo-yes}
 use Rattle.sizing.proofs.Rows.{walk, At, row}
 
@@ -77,13 +77,13 @@ unfolding rule
 rule-two = refl
 
 -- the exponent is the greatest whole number from 0 to 18 that the power rule allows
-pub exponent-rule : (n : ℕ) → rule (exponentOf n) (max n 2) ≡ true
+pub exponent-rule : (n : ℕ) → rule (exponentOf n) (sizedAs n) ≡ true
 unfolding exponentOf
-exponent-rule n = greatest-rule 18 (max n 2) (rule-mono 0 {m = 2} {n = max n 2} (omega arith) rule-two)
+exponent-rule n = greatest-rule 18 (sizedAs n) (rule-mono 0 {m = 2} {n = sizedAs n} (omega arith) rule-two)
 
-pub exponent-greatest : (n k : ℕ) → k ≤ 18 → rule k (max n 2) ≡ true → k ≤ exponentOf n
+pub exponent-greatest : (n k : ℕ) → k ≤ 18 → rule k (sizedAs n) ≡ true → k ≤ exponentOf n
 unfolding exponentOf
-exponent-greatest n k l t = greatest-top 18 (max n 2) k l t
+exponent-greatest n k l t = greatest-top 18 (sizedAs n) k l t
 
 -- ---- the short table
 

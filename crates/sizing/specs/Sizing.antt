@@ -18,9 +18,13 @@ unfoldable pub greatest : (k m : ℕ) → ℕ
 greatest zero m = zero
 greatest (suc k) m = cond (rule (suc k) m) (suc k) (greatest k m)
 
--- the segment's exponent: m is the larger of n and 2
+-- m: the larger of n and 2
+abbrev pub sizedAs : ℕ → ℕ
+sizedAs n = max n 2
+
+-- the segment's exponent
 unfoldable pub exponentOf : ℕ → ℕ
-exponentOf n = greatest 18 (max n 2)
+exponentOf n = greatest 18 (sizedAs n)
 
 -- the segment
 unfoldable pub segmentOf : ℕ → ℕ
