@@ -1,5 +1,5 @@
 -- Laws of the test of sizes: what it passes, as facts. Assumes nothing.
-use mathlib.Core.Path.{_≡_, refl, _∙_}
+use mathlib.Core.Path.{_≡_, refl}
 use mathlib.Core.Bool.{Bool, true, false, _&&_, and-eq-true-iff}
 use Prim.Native.Nat.{ℕ, _+_, _*_, _^_, _≤_, _<_}
 use native.Mathlib.Nat.{lt-of-le-of-lt, mul-le-mul}
@@ -10,7 +10,6 @@ use borrow.Author.Tests.{eq-eqb, eqb-true, leb-true, ltb-true, le-leb, lt-ltb}
 use Rattle.laws.specs.Power.{PowerOfTwo, power-pos, power-ones, ones-power}
 use Rattle.fuse.specs.declared.Sizes.{Sizes}
 use Rattle.fuse.specs.Positions.{cellsIn, Usable}
-use Rattle.fuse.specs.Asking.{Fits}
 use Rattle.fuse.specs.Layout.{segmentTest, fitting, Accepted}
 
 -- a segment is accepted exactly when it is a power of two up to 262,144

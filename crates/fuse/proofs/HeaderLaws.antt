@@ -1,16 +1,15 @@
--- Laws of the bytes in front of the cells: put one behind the other, and read again. Assumes nothing.
+-- Laws of the bytes in front of the cells: put one behind the other. Assumes nothing.
 use mathlib.Core.Path.{_≡_, refl, sym, ap, _∙_}
-use mathlib.Core.List.{List, [], _++_}
-use Prim.Native.Nat.{ℕ, _+_, _-_, _^_, _≤_, _<_}
-use native.Mathlib.Nat.{zero-add, le-of-eq, mod-eq-of-lt}
+use mathlib.Core.List.{List, _++_}
+use Prim.Native.Nat.{ℕ, _+_, _≤_}
 use native.Mathlib.Omega.{arith}
-use lib.ListN.{length, take, drop}
+use lib.ListN.{length}
 use lib.Seq.{take-all}
-use Rattle.words.specs.Field.{spelled, le, bytesOf, splice}
+use Rattle.words.specs.Field.{bytesOf, splice}
 use Rattle.words.proofs.Laws.{length-splice, take-splice-end, splice-splice}
 use Rattle.fuse.specs.declared.Sizes.{Sizes}
 use Rattle.fuse.specs.Positions.{cellsIn}
-use Rattle.fuse.specs.Layout.{magic, positiveBytes, headerOf, sizesIn}
+use Rattle.fuse.specs.Layout.{magic, positiveBytes, headerOf}
 
 pub header-length : (s : Sizes) → length (headerOf s) ≡ 48
 unfolding headerOf magic bytesOf
