@@ -1,15 +1,16 @@
--- Laws of the bytes in front of the cells: put one behind the other. Assumes nothing.
+-- Laws of the bytes in front of the cells: put one behind the other, and read again. Assumes nothing.
 use mathlib.Core.Path.{_≡_, refl, sym, ap, _∙_}
 use mathlib.Core.List.{List, _++_}
-use Prim.Native.Nat.{ℕ, _+_, _≤_}
+use Prim.Native.Nat.{ℕ, _+_, _%_, _^_, _≤_, _<_}
+use native.Mathlib.Nat.{add-zero, mod-eq-of-lt}
 use native.Mathlib.Omega.{arith}
-use lib.ListN.{length}
+use lib.ListN.{length, drop}
 use lib.Seq.{take-all}
-use Rattle.words.specs.Field.{bytesOf, splice}
-use Rattle.words.proofs.Laws.{length-splice, take-splice-end, splice-splice}
+use Rattle.words.specs.Field.{le, bytesOf, splice}
+use Rattle.words.proofs.Laws.{length-bytesOf, le-drop, le-append-left, length-splice, take-splice-end, splice-splice, le-splice-bytes}
 use Rattle.fuse.specs.declared.Sizes.{Sizes}
 use Rattle.fuse.specs.Positions.{cellsIn}
-use Rattle.fuse.specs.Layout.{magic, positiveBytes, headerOf}
+use Rattle.fuse.specs.Layout.{magic, positiveBytes, headerOf, sizesIn}
 
 pub header-length : (s : Sizes) → length (headerOf s) ≡ 48
 unfolding headerOf magic bytesOf
@@ -56,3 +57,25 @@ header-written s xs l =
     ∙ put-behind xs p₅ (bytesOf 4 (s .count)) 36 refl (omega arith))
     ∙ put-behind xs p₆ (bytesOf 4 n) 40 refl (omega arith))
     ∙ put-behind xs p₇ (bytesOf 4 n) 44 refl (omega arith)
+
+-- ---- read again
+
+-- a field that stands at a place
+field-there : (k v : ℕ) (xs rest : List ℕ) (at : ℕ) → drop at xs ≡ bytesOf k v ++ rest → v < 256 ^ k → le k xs at ≡ v
+field-there k v xs rest at e l =
+    let b : List ℕ = bytesOf k v in
+    let h : 0 + k ≤ length b = omega (arith, length-bytesOf k v) in
+    ap (le k xs) (sym (add-zero at)) ∙ sym (le-drop k xs 0 at) ∙ ap (λ (t : List ℕ). le k t 0) e ∙ le-append-left k b 0 rest h
+    ∙ ap (λ (t : List ℕ). le k t 0) (sym (splice-whole b b refl)) ∙ le-splice-bytes k b 0 v h ∙ mod-eq-of-lt l
+
+-- the sizes in a header are those that it was made of
+pub sizes-back : (s : Sizes) (cells : List ℕ) → s .keys < 2 ^ 64 → s .seed < 2 ^ 64 → s .segment < 2 ^ 32 → s .count < 2 ^ 32 → sizesIn (headerOf s ++ cells) ≡ s
+unfolding sizesIn headerOf magic bytesOf
+sizes-back s cells a b c d =
+    let xs : List ℕ = headerOf s ++ cells in
+    λ i. record {
+      keys = field-there 8 (s .keys) xs (drop 24 xs) 16 refl a i;
+      seed = field-there 8 (s .seed) xs (drop 32 xs) 24 refl b i;
+      segment = field-there 4 (s .segment) xs (drop 36 xs) 32 refl c i;
+      count = field-there 4 (s .count) xs (drop 40 xs) 36 refl d i;
+    }

@@ -10,6 +10,7 @@ use lib.Dec.{leb, eqb}
 use lib.ListN.{length, getD, drop}
 use borrow.Author.Tests.{leb-true, eqb-true, ne-eqb}
 use Rattle.fuse.specs.Positions.{cellsIn, Usable}
+use Rattle.fuse.specs.Layout.{Accepted}
 use Rattle.sizing.specs.declared.Plan.the-variants.{Positive, Fuse}
 use Rattle.sizing.specs.Table.{largest, firsts, segments}
 use Rattle.sizing.specs.Sizing.{rule, greatest, exponentOf, segmentOf, upTo, segmentsOf, cellsOf, sizesOf, planOf, rises, risesFrom}
@@ -131,6 +132,13 @@ module _ (n : ℕ) (l : 1 ≤ n) (h : n ≤ largest) where
 
   pub cells-at-least : n ≤ cellsOf n
   cells-at-least = omega (arith, cells-enough)
+
+-- the sizes for n hashes are accepted beside their cells, whatever the seed
+pub sizes-accepted : (n seed : ℕ) → 1 ≤ n → n < 2 ^ 32
+    → Accepted (record { keys = n; seed = seed; segment = segmentOf n; count = segmentsOf n - 3 }) (cellsOf n)
+sizes-accepted n seed l h =
+    let h₆₄ : n < 2 ^ 64 = omega arith in
+    record { some-key = l; few-keys = h; fits = record { usable = usable n l h₆₄; whole = sym (cells-of n l h₆₄) } }
 
 -- ---- the plan, as the code makes it
 
