@@ -1,25 +1,25 @@
 -- Reading accepts exactly the two layouts; refusal 15 has its exact cause; accepted bytes written again are the same bytes.
 -- Assumes nothing.
 use mathlib.Core.Path.{_≡_, refl, sym, ap, _∙_, subst}
-use mathlib.Core.Bool.{Bool, true, false, cond, _&&_, true≢false}
+use mathlib.Core.Bool.{true, false}
 use mathlib.Core.List.{List, [], _∷_, _++_, append-nil}
-use Prim.Native.Nat.{ℕ, zero, suc, _+_, _-_, _^_, _≤_, _<_}
+use Prim.Native.Nat.{ℕ, suc, _+_, _-_, _^_, _≤_, _<_}
 use native.Mathlib.Omega.{arith}
 use borrow.Author.Tests.{eq-eqb, eqb-true, le-ltb}
-use lib.ListN.{length, take, drop, length-append, length-drop}
+use lib.ListN.{length, drop, length-append, length-drop}
 use lib.Seq.{take-at}
-use Rattle.words.specs.Field.{le, bytesOf, splice}
+use Rattle.words.specs.Field.{bytesOf, splice}
 use Rattle.words.specs.Part.{sameAs}
 use Rattle.words.proofs.Laws.{AllBytes, le-lt}
 use Rattle.words.proofs.Ordered.{same-self}
 use Rattle.fuse.specs.declared.Sizes.{Sizes}
-use Rattle.fuse.specs.Layout.{magic, positiveBytes, headerOf, sizesIn, fitting, fuseLaid, Accepted}
+use Rattle.fuse.specs.Layout.{magic, positiveBytes, headerOf, sizesIn, fuseLaid, Accepted}
 use Rattle.fuse.proofs.FitLaws.{fitting-accepted, accepted-fitting, cells-some}
 use Rattle.fuse.proofs.HeaderLaws.{header-length, sizes-back}
 use Rattle.filter.specs.declared.SstFilter.{SstFilter}
 use Rattle.filter.specs.declared.SstFilter.the-variants.{Positive, Fuse, Refused}
 use Rattle.filter.specs.declared.Written.{Written}
-use Rattle.filter.specs.declared.Written.the-variants.{Length, Unaccepted, Short}
+use Rattle.filter.specs.declared.Written.the-variants.{Length}
 use Rattle.filter.specs.Reading.{readOf, frontOf, acceptable, Layout, positive, fuse}
 use Rattle.filter.specs.Writing.{bytesFor, writeOf, outputBy, WritePost}
 use Rattle.filter.proofs.ReadLaws.{read-positive, read-other, positive-bytes, fuse-sizes, fuse-accepted, fuse-bytes}

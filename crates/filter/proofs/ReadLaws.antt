@@ -1,17 +1,16 @@
 -- Laws of reading: the three answers as the code gives them, and what each says of the bytes. Assumes nothing.
 use mathlib.Core.Path.{_≡_, refl, sym, ap, _∙_}
-use mathlib.Core.Bool.{Bool, true, false, cond, _&&_, and-eq-true-iff}
+use mathlib.Core.Bool.{Bool, true, false, cond, and-eq-true-iff}
 use mathlib.Core.List.{List, _++_}
-use Prim.Native.Nat.{ℕ, _-_, _≤_, _<_}
+use Prim.Native.Nat.{ℕ, _-_, _<_}
 use native.Mathlib.Omega.{arith}
 use lib.ListN.{length, take, drop, take-append-drop}
 use Rattle.words.specs.Part.{sameAs}
-use Rattle.words.proofs.Ordered.{same-equal, same-self, same-lengths}
+use Rattle.words.proofs.Ordered.{same-equal, same-lengths}
 use Rattle.fuse.specs.declared.Sizes.{Sizes}
 use Rattle.fuse.specs.Layout.{positiveBytes, headerOf, sizesIn, fitting, fuseLaid, Accepted}
 use Rattle.fuse.proofs.FitLaws.{fitting-accepted, not-fitting, cells-some}
 use Rattle.fuse.proofs.HeaderLaws.{positive-length}
-use Rattle.filter.specs.declared.SstFilter.{SstFilter}
 use Rattle.filter.specs.declared.SstFilter.the-variants.{Positive, Fuse, Refused}
 use Rattle.filter.specs.Reading.{readOf}
 
