@@ -1,0 +1,1 @@
+// Definitions and lemmas without code that several crates use.
