@@ -1,14 +1,14 @@
 -- Laws of `count` and `without`, and the pigeonhole. Assumes nothing.
-use mathlib.Core.Path.{_≡_, refl, sym, ap, ap₂, _∙_, subst}
+use mathlib.Core.Path.{_≡_, refl, sym, ap, _∙_}
 use mathlib.Core.Bool.{Bool, true, false, cond}
 use mathlib.Core.List.{List, [], _∷_, _++_}
-use Prim.Native.Nat.{ℕ, zero, suc, _+_, _*_, _/_, _%_, _<_, _≤_, _^_, zero-le}
+use Prim.Native.Nat.{ℕ, zero, suc, _+_, _<_, _≤_, zero-le}
 use native.Mathlib.Nat.{not-suc-le-zero}
 use native.Mathlib.Omega.{arith}
 use borrow.Author.Tests.{eqb-true, eqb-false, eq-eqb, ne-eqb, ltb-true, ltb-false}
-use lib.Dec.{eqb, ltb}
-use lib.ListN.{length}
-use Rattle.laws.specs.Count.{one, count, among, keep, without, rising}
+use lib.Dec.{eqb}
+use lib.ListN.{length, getD, set}
+use Rattle.laws.specs.Count.{one, count, among, without}
 
 pub count-nil : (v : ℕ) → count v [] ≡ 0
 unfolding count
@@ -94,3 +94,15 @@ pigeonhole zero [] o b = omega arith
 pigeonhole zero (x ∷ xs) o b = omega (arith, b x zero-le, count-here x xs)
 pigeonhole (suc c) xs o b =
     omega (arith, length-without-le c xs, pigeonhole c (without c xs) (λ v. omega (arith, count-without-le v c xs, o v)) (fewer c xs o b))
+
+-- one number of a list is replaced by another
+pub count-set : (v : ℕ) (xs : List ℕ) (i x : ℕ) → i < length xs → one (eqb v (getD xs i 0)) + count v (set xs i x) ≡ one (eqb v x) + count v xs
+count-set v [] i x h = absurd (not-suc-le-zero h)
+count-set v (y ∷ ys) zero x h = omega (arith, count-cons v y ys, count-cons v x ys)
+count-set v (y ∷ ys) (suc i) x h = omega (arith, count-cons v y ys, count-cons v y (set ys i x), count-set v ys i x (omega arith))
+
+-- a number that stands nowhere in a list is not counted
+pub count-none : (v : ℕ) (xs : List ℕ) → ((i : ℕ) → i < length xs → getD xs i 0 ≡ v → ⊥) → count v xs ≡ 0
+count-none v [] n = count-nil v
+count-none v (x ∷ xs) n =
+    count-other v x xs (λ e. n 0 (omega arith) (sym e)) ∙ count-none v xs (λ i h. n (suc i) (omega arith))
