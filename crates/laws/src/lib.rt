@@ -1,1 +1,1 @@
-// Definitions and lemmas without code that several crates use.
+// Definitions and lemmas that crates above share: specs/ and proofs/ hold them, and there is no code.
