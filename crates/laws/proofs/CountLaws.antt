@@ -106,3 +106,13 @@ pub count-none : (v : ℕ) (xs : List ℕ) → ((i : ℕ) → i < length xs → 
 count-none v [] n = count-nil v
 count-none v (x ∷ xs) n =
     count-other v x xs (λ e. n 0 (omega arith) (sym e)) ∙ count-none v xs (λ i h. n (suc i) (omega arith))
+
+-- numbers that differ wherever they stand are counted once at most
+pub count-apart : (xs : List ℕ) → ((i j : ℕ) → i < length xs → j < length xs → getD xs i 0 ≡ getD xs j 0 → i ≡ j) → (v : ℕ) → count v xs ≤ 1
+count-apart [] apart v = omega (arith, count-nil v)
+count-apart (x ∷ xs) apart v =
+    by-test (eqb v x)
+    (λ e.
+    let none : count v xs ≡ 0 = count-none v xs (λ i h s. absurd (omega (arith, apart 0 (suc i) (omega arith) (omega arith) (sym (s ∙ eqb-true v x e))))) in
+    omega (arith, count-cons v x xs, ap one e))
+    (λ e. omega (arith, count-cons v x xs, ap one e, count-apart xs (λ i j h k s. omega (arith, apart (suc i) (suc j) (omega arith) (omega arith) s)) v))
