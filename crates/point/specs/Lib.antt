@@ -1,0 +1,4 @@
+pub mod Layout
+pub mod Validate
+pub mod Get
+pub mod Table
