@@ -1,2 +1,3 @@
 pub mod HeaderLaws
 pub mod GetLaws
+pub mod ValidateLaws

@@ -1,12 +1,14 @@
 -- Validation in document 01's order (document 01, "Validation").
-use Prim.Native.Nat.{ℕ, zero, suc, _-_}
+use Prim.Native.Nat.{ℕ, zero, suc, _-_, _≤_}
+use mathlib.Core.Path.{_≡_}
 use mathlib.Core.List.{List, [], _∷_}
 use mathlib.Core.Bool.{not, cond}
 use lib.Dec.{eqb}
+use lib.ListN.{length}
 use Rattle.laws.specs.Refusals.{cause, firstOf, orElse}
 use Rattle.mixing.specs.Mixing.{hashOf, fingerprintOf}
 use Rattle.records.specs.declared.DataLength.the-variants.{Of}
-use Rattle.records.specs.Places.{keyAt}
+use Rattle.records.specs.Places.{keyAt, firstVersion}
 use Rattle.records.specs.Walk.{walkFrom}
 use Rattle.point.specs.declared.Validated.{Validated}
 use Rattle.point.specs.declared.Validated.the-variants.{Accepted, Refused}
@@ -17,17 +19,17 @@ unfoldable pub pilotsRefusal : List ℕ → (n i : ℕ) → ℕ → ℕ
 pilotsRefusal body n i zero = 0
 pilotsRefusal body n i (suc k) = cond (directPast n (pilotAt body i)) 22 (pilotsRefusal body n (suc i) k)
 
--- where the slot of the key at p stands
-abbrev pub keySlot : List ℕ → ℕ → ℕ
-keySlot body p = slotPlace body (slotOf body (hashOf (seedIn body) (keyAt body p)))
-
--- 26 slot offset or fingerprint (read as u32) wrong, of the key at p
-unfoldable pub slotRefusal : List ℕ → ℕ → ℕ
-slotRefusal body p =
+-- 26 slot offset or fingerprint (read as u32) wrong, of a hash h whose key stands at p
+unfoldable pub slotTest : List ℕ → (h p : ℕ) → ℕ
+slotTest body h p =
     firstOf
-    (cause (not (eqb (recordOffset body (keySlot body p)) (p - arenaIn body))) 26
-    ∷ cause (not (eqb (fingerprintWide body (keySlot body p)) (fingerprintOf (hashOf (seedIn body) (keyAt body p))))) 26
+    (cause (not (eqb (recordOffset body (slotPlace body (slotOf body h))) (p - arenaIn body))) 26
+    ∷ cause (not (eqb (fingerprintWide body (slotPlace body (slotOf body h))) (fingerprintOf h))) 26
     ∷ [])
+
+-- 26 of the key at p
+unfoldable pub slotRefusal : List ℕ → ℕ → ℕ
+slotRefusal body p = slotTest body (hashOf (seedIn body) (keyAt body p)) p
 
 -- 23 to 30, over the arena
 abbrev pub arenaRefusal : List ℕ → ℕ → ℕ
@@ -50,3 +52,14 @@ validateOf body size = verdict (validationRefusal body size)
 abbrev pub refusalNumber : Validated → ℕ
 refusalNumber Accepted = 0
 refusalNumber (Refused n) = n
+
+-- 20 to 22 passed
+pub record Checked (body : List ℕ) : Type 0 where
+  pub header : headerRefusal body ≡ 0
+  pub pilots : pilotsRefusal body (keysIn body) 0 (bucketsIn body) ≡ 0
+
+-- and the key at p stands in the arena
+pub record Reached (body : List ℕ) (p : ℕ) : Type 0 where
+  pub checked : Checked body
+  pub here : arenaIn body ≤ p
+  pub whole : firstVersion body p ≤ length body

@@ -1,13 +1,14 @@
 // The reading side of the point index: validate, get, and the value of what get finds.
-use words::field;
-use words::part;
 use records::Limit;
 use records::Record;
+use words::field;
+use words::part;
 ghost use mathlib.Core.Path.{_≡_};
 ghost use mathlib.Core.Bool.{false};
-ghost use Prim.Native.Nat.{_+_, _*_, _≤_};
+ghost use Prim.Native.Nat.{_+_, _≤_};
 ghost use lib.ListN.{length};
-ghost use Rattle.point.specs.Layout.{magicRefusal, dimensionRefusal, headerRefusal, keysIn, pilotOf, directPast, slotOf, slotPlace};
+ghost use Rattle.point.specs.Layout.{magicRefusal, dimensionRefusal, headerRefusal, keysIn, bucketsIn, arenaIn, pilotOf, directPast, slotOf, slotPlace};
+ghost use Rattle.point.specs.Validate.{pilotsRefusal, slotTest, slotRefusal, Reached};
 ghost use Rattle.point.specs.Get.{locateHash, locateOf, openRecordOf, openOf};
 
 // The header of a body.
@@ -200,4 +201,50 @@ pub fn open(body: &[u8], key: &[u8]) -> Opened
         Located::Nothing => Opened::Nothing,
         Located::Damaged => Opened::Damaged,
     }
+}
+
+// 22, or 0: every pilot, those of empty buckets too.
+fn pilots_refusal(body: &[u8]) -> u8
+    requires { ⌜ headerRefusal (now body) ≡ 0 ⌝ }
+    ensures { λ r. ⌜ r ≡ pilotsRefusal (now (body .entry)) (keysIn (now (body .entry))) 0 (bucketsIn (now (body .entry))) ⌝ }
+{
+    let n = field::u32_at(body, 16) as u64;
+    let b = field::u32_at(body, 20) as usize;
+    let mut i = 0;
+    while i < b {
+        if Header::DIRECT + n <= field::u32_at(body, 32 + 4 * i) as u64 {
+            return 22;
+        }
+        i += 1;
+    }
+    0
+}
+
+// 26, or 0: the slot of a hash names the place of its key, and holds its fingerprint, read as u32.
+fn slot_test(body: &[u8], h: u64, p: usize) -> u8
+    requires { ⌜ (headerRefusal (now body) ≡ 0) × (directPast (keysIn (now body)) (pilotOf (now body) h) ≡ false) × (arenaIn (now body) ≤ p) ⌝ }
+    ensures { λ r. ⌜ r ≡ slotTest (now (body .entry)) h p ⌝ }
+{
+    let s = slot_of(body, h);
+    if field::u64_at(body, s) != p as u64 - field::u64_at(body, 24) {
+        return 26;
+    }
+    if field::u32_at(body, s + 8) != mixing::fingerprint(h) as u32 {
+        return 26;
+    }
+    0
+}
+
+// 26, or 0, of the key at a place.
+fn slot_refusal(body: &[u8], p: usize) -> u8
+    requires { ⌜ Reached (now body) p ⌝ }
+    ensures { λ r. ⌜ r ≡ slotRefusal (now (body .entry)) p ⌝ }
+{
+    let from = p + 8;
+    let to = from + field::u32_at(body, p) as usize;
+    slot_test(
+        body,
+        mixing::hash(&body[from..to], field::u64_at(body, 8)),
+        p,
+    )
 }
