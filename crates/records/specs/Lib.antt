@@ -3,3 +3,5 @@ pub mod Places
 pub mod Rules
 pub mod Walk
 pub mod Within
+pub mod Cursor
+pub mod Needs
