@@ -1,5 +1,5 @@
 -- What the header's rules say, a test at a time, and where pilots and slots stand in a body that passed them. Assumes nothing.
-use Prim.Native.Nat.{ℕ, zero, suc, _+_, _-_, _*_, _/_, _<_, _≤_}
+use Prim.Native.Nat.{ℕ, suc, _+_, _-_, _*_, _/_, _<_, _≤_}
 use native.Mathlib.Nat.{suc-ne-zero}
 use native.Mathlib.Omega.{arith}
 use mathlib.Core.Path.{_≡_, refl, sym, ap, _∙_}
@@ -8,21 +8,11 @@ use mathlib.Core.Bool.{Bool, true, false, not, cond}
 use lib.ListN.{length, take}
 use lib.Dec.{ltb, leb, eqb}
 use borrow.Author.Tests.{ltb-false, leb-true, leb-false, eqb-true, eqb-false, not-false, lt-ltb, le-ltb, le-leb, lt-leb}
-use Rattle.laws.specs.Refusals.{orElse}
+use Rattle.laws.specs.RefusalLaws.{orElse-stop, orElse-zero}
 use Rattle.words.specs.Field.{le}
 use Rattle.words.specs.Part.{sameAs}
 use Rattle.mixing.specs.Mixing.{bucketOf, bucketOf-lt, positionOf, positionOf-lt}
 use Rattle.point.specs.Layout.{magic, keysIn, bucketsIn, arenaIn, magicRefusal, dimensionRefusal, headerRefusal, pilotOf, directPast, slotNumber, slotOf, slotPlace}
-
--- ---- refusals in a row
-
-pub orElse-stop : (a b : ℕ) → (a ≡ 0 → ⊥) → orElse a b ≡ a
-orElse-stop zero b n = absurd (n refl)
-orElse-stop (suc a) b n = refl
-
-pub orElse-zero : (a b : ℕ) → orElse a b ≡ 0 → (a ≡ 0) × (b ≡ 0)
-orElse-zero zero b e = (refl, e)
-orElse-zero (suc a) b e = absurd (suc-ne-zero _ e)
 
 -- a test that refuses, and did not
 pub passes : (t : Bool) (r x : ℕ) → cond t (suc r) x ≡ 0 → (t ≡ false) × (x ≡ 0)

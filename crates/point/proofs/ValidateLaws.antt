@@ -10,11 +10,16 @@ use mathlib.Core.Logic.{_⊎_, ⊎-elim}
 use lib.ListN.{length, take, drop}
 use lib.Dec.{eqb}
 use borrow.Author.Tests.{eqb-true, not-false, le-leb, lt-leb, eq-eqb, ne-eqb}
+use Rattle.laws.specs.RefusalLaws.{orElse-stop, orElse-zero}
 use Rattle.words.specs.Field.{le}
 use Rattle.mixing.specs.Mixing.{hashOf, fingerprintOf, bucketOf, bucketOf-lt}
-use Rattle.records.specs.Places.{keyLength, keyAt}
+use Rattle.records.specs.declared.DataLength.the-variants.{Of}
+use Rattle.records.specs.Places.{keyLength, keyAt, nextEntry}
+use Rattle.records.specs.Walk.{walkFrom}
+use Rattle.records.proofs.RuleLaws.{Entered}
+use Rattle.point.specs.declared.Validated.the-variants.{Accepted, Refused}
 use Rattle.point.specs.Layout.{headerRefusal, seedIn, keysIn, bucketsIn, arenaIn, pilotAt, pilotOf, directPast, slotOf, slotPlace, recordOffset, fingerprintWide}
-use Rattle.point.specs.Validate.{pilotsRefusal, slotTest, slotRefusal, Checked}
+use Rattle.point.specs.Validate.{pilotsRefusal, slotTest, slotRefusal, arenaRefusal, validationRefusal, verdict, validateOf, Checked, Stepping}
 use Rattle.point.proofs.HeaderLaws.{passes, headed}
 use Rattle.point.proofs.GetLaws.{key-cut}
 
@@ -88,3 +93,61 @@ pub slot-is : (body : List ℕ) (p kl seed h r : ℕ) → kl ≡ keyLength body 
 unfolding slotRefusal
 slot-is body p kl seed h r ek es eh er =
     er ∙ ap (λ (g : ℕ). slotTest body g p) (eh ∙ ap (hashOf seed) (sym (key-cut body p kl ek)) ∙ ap (λ (x : ℕ). hashOf x (keyAt body p)) es)
+
+-- ---- the arena
+
+pub arena-start : (body : List ℕ) (size a n : ℕ) → a ≡ arenaIn body → n ≡ keysIn body
+    → walkFrom (slotRefusal body) body (Of size) a a n .rule ≡ arenaRefusal body size
+arena-start body size a n ea en = rw (ea, en)
+
+-- the walk begins, and goes on past an entry that passed
+pub step-first : (body : List ℕ) (a : ℕ) → Checked body → a ≡ arenaIn body → Stepping body a a
+step-first body a c e =
+    let d = headed body (c .header) in
+    record { checked = c; here = omega arith; walking = record { here = omega arith; before = λ n. absurd (n refl) } }
+
+pub step-next : (body : List ℕ) (size prev p q : ℕ) → Stepping body prev p → Entered (slotRefusal body) body (Of size) prev p → q ≡ nextEntry body p → Stepping body p q
+step-next body size prev p q s e eq =
+    let n = e .next in
+    let h = s .here in
+    record { checked = s .checked; here = omega arith; walking = record { here = omega arith; before = λ z. e .key .whole } }
+
+-- ---- the whole
+
+module _ (body : List ℕ) (size r : ℕ) (isr : r ≡ headerRefusal body) where
+  pub validation-header : (r ≡ 0 → ⊥) → validationRefusal body size ≡ r
+  unfolding validationRefusal
+  validation-header n = rw (← isr) (orElse-stop r _ n)
+
+  module _ (good : r ≡ 0) (q : ℕ) (isq : q ≡ pilotsRefusal body (keysIn body) 0 (bucketsIn body)) where
+    pub validation-pilots : (q ≡ 0 → ⊥) → validationRefusal body size ≡ q
+    unfolding validationRefusal
+    validation-pilots n = rw (← isr, good, ← isq) (orElse-stop q _ n)
+
+    pub validation-arena : q ≡ 0 → validationRefusal body size ≡ arenaRefusal body size
+    unfolding validationRefusal
+    validation-arena e = rw (← isr, good, ← isq, e)
+
+pub verdict-refused : (r : ℕ) → (r ≡ 0 → ⊥) → verdict r ≡ Refused r
+verdict-refused zero n = absurd (n refl)
+verdict-refused (suc r) n = refl
+
+pub verdict-accepted : (r : ℕ) → verdict r ≡ Accepted → r ≡ 0
+verdict-accepted zero e = refl
+verdict-accepted (suc r) e = absurd (let z : _≡_ {A = ℕ} 0 1 = cc in omega arith)
+
+-- what an accepted body passed
+pub record Passed (body : List ℕ) (size : ℕ) : Type 0 where
+  pub checked : Checked body
+  pub arena : arenaRefusal body size ≡ 0
+
+pub passed : (body : List ℕ) (size : ℕ) → validateOf body size ≡ Accepted → Passed body size
+unfolding validateOf validationRefusal
+passed body size e =
+    let s = orElse-zero (headerRefusal body) _ (verdict-accepted _ e) in
+    let t = orElse-zero (pilotsRefusal body (keysIn body) 0 (bucketsIn body)) _ (s .1) in
+    record { checked = record { header = s .0; pilots = t .0 }; arena = t .1 }
+
+pub accepted : (body : List ℕ) (size : ℕ) → Passed body size → validateOf body size ≡ Accepted
+unfolding validateOf validationRefusal
+accepted body size p = rw (p .checked .header, p .checked .pilots, p .arena)

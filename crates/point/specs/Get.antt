@@ -61,11 +61,11 @@ firstOfAll body p (suc k) =
     cond (ltb (length body) (p + 21)) within.Damaged (cond (badKind (kindAt body p)) within.Damaged (within.Found (recordAt body p)))
 
 -- the first version within the limit
-unfoldable pub firstFor : List ℕ → Limit → Opened → Within
-firstFor body None (opened.Open v) = firstOfAll body (v .first) (v .count)
-firstFor body (UpTo l) (opened.Open v) = firstWithin body l (v .first) (v .count)
-firstFor body limit opened.Nothing = within.Nothing
-firstFor body limit opened.Damaged = within.Damaged
+unfoldable pub firstFor : List ℕ → Opened → Limit → Within
+firstFor body opened.Nothing limit = within.Nothing
+firstFor body opened.Damaged limit = within.Damaged
+firstFor body (opened.Open v) None = firstOfAll body (v .first) (v .count)
+firstFor body (opened.Open v) (UpTo l) = firstWithin body l (v .first) (v .count)
 
 -- the answer: 14 if offset + length passes the data
 unfoldable pub answerOf : ℕ → Within → Answer
@@ -75,7 +75,7 @@ answerOf size within.Damaged = Refused 14
 
 -- the answer to a key under a limit, with data of this size
 unfoldable pub getOf : List ℕ → (size : ℕ) → List ℕ → Limit → Answer
-getOf body size key limit = answerOf size (firstFor body limit (openOf body key))
+getOf body size key limit = answerOf size (firstFor body (openOf body key) limit)
 
 -- that part of the lent data, or the data's first zero bytes if no record is found
 unfoldable pub partOf : List ℕ → Answer → List ℕ

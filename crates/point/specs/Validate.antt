@@ -8,6 +8,7 @@ use lib.ListN.{length}
 use Rattle.laws.specs.Refusals.{cause, firstOf, orElse}
 use Rattle.mixing.specs.Mixing.{hashOf, fingerprintOf}
 use Rattle.records.specs.declared.DataLength.the-variants.{Of}
+use Rattle.records.specs.Needs.{Walking}
 use Rattle.records.specs.Places.{keyAt, firstVersion}
 use Rattle.records.specs.Walk.{walkFrom}
 use Rattle.point.specs.declared.Validated.{Validated}
@@ -63,3 +64,9 @@ pub record Reached (body : List ℕ) (p : ℕ) : Type 0 where
   pub checked : Checked body
   pub here : arenaIn body ≤ p
   pub whole : firstVersion body p ≤ length body
+
+-- and a walk over the arena has come to p, from the entry at prev
+pub record Stepping (body : List ℕ) (prev p : ℕ) : Type 0 where
+  pub checked : Checked body
+  pub here : arenaIn body ≤ p
+  pub walking : Walking body prev p

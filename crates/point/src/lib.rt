@@ -1,6 +1,8 @@
 // The reading side of the point index: validate, get, and the value of what get finds.
+use records::DataLength;
 use records::Limit;
 use records::Record;
+use records::Within;
 use words::field;
 use words::part;
 ghost use mathlib.Core.Path.{_≡_};
@@ -8,8 +10,12 @@ ghost use mathlib.Core.Bool.{false};
 ghost use Prim.Native.Nat.{_+_, _≤_};
 ghost use lib.ListN.{length};
 ghost use Rattle.point.specs.Layout.{magicRefusal, dimensionRefusal, headerRefusal, keysIn, bucketsIn, arenaIn, pilotOf, directPast, slotOf, slotPlace};
-ghost use Rattle.point.specs.Validate.{pilotsRefusal, slotTest, slotRefusal, Reached};
-ghost use Rattle.point.specs.Get.{locateHash, locateOf, openRecordOf, openOf};
+ghost use Rattle.point.specs.Validate.{pilotsRefusal, slotTest, slotRefusal, arenaRefusal, validationRefusal, validateOf, Checked, Reached, Stepping};
+ghost use Rattle.point.specs.Get.{locateHash, locateOf, openRecordOf, openOf, answerOf, getOf, valueOf};
+ghost use Rattle.records.specs.declared.DataLength.the-variants.{Of};
+ghost use Rattle.records.specs.declared.Limit.the-variants.{UpTo};
+ghost use Rattle.records.specs.Model.{limitOf};
+ghost use Rattle.records.specs.Rules.{entryRefusal};
 
 // The header of a body.
 pub struct Header {}
@@ -247,4 +253,142 @@ fn slot_refusal(body: &[u8], p: usize) -> u8
         mixing::hash(&body[from..to], field::u64_at(body, 8)),
         p,
     )
+}
+
+// 23 to 29, or 0, of the entry at p after the one at prev: its key, its slot, its versions.
+fn entry_refusal(body: &[u8], data_length: u64, prev: usize, p: usize) -> u8
+    requires { ⌜ Stepping (now body) prev p ⌝ }
+    ensures { λ r. ⌜ r ≡ entryRefusal (slotRefusal (now (body .entry))) (now (body .entry)) (Of data_length) prev p ⌝ }
+{
+    let r = records::rules::key_refusal(body, prev, p);
+    if r != 0 {
+        return r;
+    }
+    let s = slot_refusal(body, p);
+    if s != 0 {
+        return s;
+    }
+    let first = p + 8 + field::u32_at(body, p) as usize;
+    records::rules::versions_refusal(
+        body,
+        DataLength::Of(data_length),
+        first,
+        field::u32_at(body, p + 4),
+    )
+}
+
+// 23 to 30, or 0, over the arena.
+fn arena_refusal(body: &[u8], data_length: u64) -> u8
+    requires { ⌜ Checked (now body) ⌝ }
+    ensures { λ r. ⌜ r ≡ arenaRefusal (now (body .entry)) data_length ⌝ }
+{
+    let arena = field::u64_at(body, 24) as usize;
+    let mut left = field::u32_at(body, 16);
+    let mut prev = arena;
+    let mut p = arena;
+    while 0 < left {
+        let r = entry_refusal(body, data_length, prev, p);
+        if r != 0 {
+            return r;
+        }
+        let next = records::cursor::next_entry(body, p);
+        prev = p;
+        p = next;
+        left -= 1;
+    }
+    if p == body.len() {
+        return 0;
+    }
+    30
+}
+
+// The number of the first rule that the body breaks, or 0.
+fn validation_refusal(body: &[u8], data_length: u64) -> u8
+    ensures { λ r. ⌜ r ≡ validationRefusal (now (body .entry)) data_length ⌝ }
+{
+    let r = header_refusal(body);
+    if r != 0 {
+        return r;
+    }
+    let q = pilots_refusal(body);
+    if q != 0 {
+        return q;
+    }
+    arena_refusal(body, data_length)
+}
+
+// Validates a body for data of a length.
+pub fn validate(body: &[u8], data_length: u64) -> Validated
+    ensures { λ r. ⌜ r ≡ validateOf (now (body .entry)) data_length ⌝ }
+{
+    let r = validation_refusal(body, data_length);
+    if r == 0 {
+        return Validated::Accepted;
+    }
+    Validated::Refused(r)
+}
+
+// The answer that the first version within a limit gives, with data of a length.
+fn answered(found: Within, data_length: u64) -> Answer
+    ensures { λ r. ⌜ r ≡ answerOf data_length found ⌝ }
+{
+    match found {
+        Within::Found(r) => {
+            if records::rules::past_data(DataLength::Of(data_length), r.offset, r.length) {
+                return Answer::Refused(Answer::DAMAGE);
+            }
+            Answer::Found(r)
+        }
+        Within::Nothing => Answer::Nothing,
+        Within::Damaged => Answer::Refused(Answer::DAMAGE),
+    }
+}
+
+// The key's record up to a sequence, with data of a length.
+pub fn lookup(body: &[u8], data_length: u64, key: &[u8], most: u64) -> Answer
+    ensures { λ r. ⌜ r ≡ getOf (now (body .entry)) data_length (now (key .entry)) (UpTo most) ⌝ }
+{
+    let o = open(body, key);
+    match o {
+        Opened::Open(v) => {
+            let first = v.first;
+            let found = records::search::first_within(body, most, first, v.count);
+            answered(found, data_length)
+        }
+        Opened::Nothing => Answer::Nothing,
+        Opened::Damaged => Answer::Refused(Answer::DAMAGE),
+    }
+}
+
+// The greatest sequence within a limit.
+fn greatest(limit: Limit) -> u64
+    ensures { λ r. ⌜ r ≡ limitOf limit ⌝ }
+{
+    match limit {
+        Limit::None => 0xffff_ffff_ffff_ffff,
+        Limit::UpTo(l) => l,
+    }
+}
+
+// The key's record within the limit.
+pub fn get<'b, 'd, 'k>(body: &'b [u8], data: &'d [u8], key: &'k [u8], limit: Limit) -> Answer
+    ensures { λ r. ⌜ r ≡ getOf (now (body .entry)) (length (now («data» .entry))) (now (key .entry)) limit ⌝ }
+{
+    lookup(body, data.len() as u64, key, greatest(limit))
+}
+
+// The value of what get finds, as that part of the data; or the data's first zero bytes.
+pub fn value<'b, 'd, 'k>(body: &'b [u8], data: &'d [u8], key: &'k [u8], limit: Limit) -> &'d [u8]
+    ensures { λ r. ⌜ now r ≡ valueOf (now (body .entry)) (now («data» .entry)) (now (key .entry)) limit ⌝ }
+{
+    let a = get(body, data, key, limit);
+    match a {
+        Answer::Found(r) => {
+            let from = r.offset as usize;
+            let to = from + r.length as usize;
+            &data[from..to]
+        }
+        Answer::Nothing => &data[..0],
+        Answer::Refused(_) => &data[..0],
+    }
 }
