@@ -3,3 +3,7 @@ pub mod KindLaws
 pub mod SearchLaws
 pub mod WalkLaws
 pub mod CursorLaws
+pub mod TableLaws
+pub mod PassedLaws
+pub mod ReadLaws
+pub mod WriteLaws

@@ -5,3 +5,4 @@ pub mod Walk
 pub mod Within
 pub mod Cursor
 pub mod Needs
+pub mod Tables
