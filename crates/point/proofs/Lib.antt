@@ -1,3 +1,4 @@
 pub mod HeaderLaws
 pub mod GetLaws
 pub mod ValidateLaws
+pub mod SlotLaws
