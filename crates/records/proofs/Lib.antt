@@ -7,3 +7,6 @@ pub mod TableLaws
 pub mod PassedLaws
 pub mod ReadLaws
 pub mod WriteLaws
+pub mod AcceptLaws
+pub mod WithinLaws
+pub mod Theorems
