@@ -2,3 +2,4 @@ pub mod HeaderLaws
 pub mod GetLaws
 pub mod ValidateLaws
 pub mod SlotLaws
+pub mod LookupLaws

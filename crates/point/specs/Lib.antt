@@ -2,3 +2,4 @@ pub mod Layout
 pub mod Validate
 pub mod Get
 pub mod Table
+pub mod Lookup
