@@ -3,3 +3,5 @@ pub mod GetLaws
 pub mod ValidateLaws
 pub mod SlotLaws
 pub mod LookupLaws
+pub mod OpenLaws
+pub mod Theorems

@@ -112,7 +112,7 @@ module _ (body : List ℕ) (size : ℕ) (ok : validateOf body size ≡ Accepted)
       record { slot = refl; place = omega arith; fingerprint = s .fingerprint }
 
   -- no two keys have one slot
-  slots-apart : (i j : ℕ) → i < keysIn body → j < keysIn body → keySlot body (keyOf body i) ≡ keySlot body (keyOf body j) → i ≡ j
+  pub slots-apart : (i j : ℕ) → i < keysIn body → j < keysIn body → keySlot body (keyOf body i) ≡ keySlot body (keyOf body j) → i ≡ j
   slots-apart i j li lj e =
       key-apart i j
       (sym (key-belongs i li .place) ∙ ap (λ (s : ℕ). arenaIn body + recordOffset body (slotPlace body s)) e ∙ key-belongs j lj .place)
