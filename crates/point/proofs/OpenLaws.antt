@@ -1,16 +1,15 @@
 -- On an accepted body, the opening of a key finds its versions, or nothing where it is no key of the body; and the records of a key in the
 -- body's table. Assumes nothing.
-use Prim.Native.Nat.{ℕ, zero, suc, _+_, _-_, _*_, _^_, _<_, _≤_}
+use Prim.Native.Nat.{ℕ, zero, suc, _+_, _-_, _<_, _≤_}
 use native.Mathlib.Nat.{not-suc-le-zero}
 use native.Mathlib.Omega.{arith}
 use mathlib.Core.Path.{_≡_, refl, sym, ap, _∙_}
-use mathlib.Core.List.{List, [], _∷_, append-nil}
+use mathlib.Core.List.{List, [], append-nil}
 use mathlib.Core.Bool.{Bool, true, false}
 use mathlib.Core.Logic.{_⊎_, inl, inr, ⊎-elim}
 use lib.ListN.{length}
 use borrow.Author.Tests.{leb-false}
 use Rattle.laws.specs.Pigeonhole.{equal-or-not, Hit}
-use Rattle.words.specs.Field.{le}
 use Rattle.words.specs.Part.{sameAs}
 use Rattle.words.proofs.Laws.{AllBytes, le-lt, le-join}
 use Rattle.words.proofs.Ordered.{same-equal, same-self}
@@ -21,7 +20,7 @@ use Rattle.point.specs.declared.Validated.the-variants.{Accepted}
 use Rattle.point.specs.declared.Versions.{Versions}
 use Rattle.point.specs.declared.Located.the-variants as located
 use Rattle.point.specs.declared.Opened.the-variants as opened
-use Rattle.point.specs.Layout.{headerRefusal, seedIn, keysIn, arenaIn, pilotOf, slotPlace, recordOffset, fingerprintLow, fingerprintWide}
+use Rattle.point.specs.Layout.{seedIn, keysIn, arenaIn, slotPlace, recordOffset, fingerprintLow, fingerprintWide}
 use Rattle.point.specs.Validate.{validateOf}
 use Rattle.point.specs.Get.{locateOf, openRecordOf, openOf}
 use Rattle.point.specs.Table.{tableOf, keyPlace, keyOf, keySlot}
