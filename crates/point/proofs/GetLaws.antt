@@ -23,6 +23,7 @@ use Rattle.records.specs.Model.{limitOf}
 use Rattle.records.specs.Places.{keyLength, keyAt, firstVersion, versionCount, sequenceAt}
 use Rattle.records.specs.Rules.{pastData}
 use Rattle.records.specs.Within.{firstWithin}
+use Rattle.records.proofs.CursorLaws.{key-cut}
 use Rattle.point.specs.declared.Versions.{Versions}
 use Rattle.point.specs.declared.Answer.{Answer}
 use Rattle.point.specs.declared.Answer.the-variants.{Found, Nothing, Refused}
@@ -69,11 +70,6 @@ module _ (body key : List ℕ) (r : ℕ) (isr : r ≡ headerRefusal body) where
   locate-on e = rw (← isr, eq-eqb r 0 e)
 
 -- ---- the record
-
--- a key, as the code cuts it out
-pub key-cut : (body : List ℕ) (p kl : ℕ) → kl ≡ keyLength body p → keyAt body p ≡ take (p + 8 + kl - (p + 8)) (drop (p + 8) body)
-unfolding keyAt
-key-cut body p kl e = rw (← e, add-sub-cancel-left (p + 8) kl)
 
 module _ (body key : List ℕ) (p : ℕ) where
   pub record-short : length body < p + 8 → openRecordOf body p key ≡ opened.Damaged

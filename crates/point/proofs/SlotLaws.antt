@@ -20,7 +20,7 @@ use Rattle.records.specs.Model.{Entry, tableBytes}
 use Rattle.records.specs.Places.{entriesFrom, entryPlace}
 use Rattle.records.specs.Tables.{RecordRules, EntryRules, InData, EntryInData}
 use Rattle.records.specs.Walk.{walkFrom}
-use Rattle.records.proofs.PassedLaws.{Passed, EnteredAt, place-up, place-rises, entries-count, passed-at, walk-passed, walk-ends, walk-whole}
+use Rattle.records.proofs.PassedLaws.{Passed, EnteredAt, place-up, place-apart, entries-count, passed-at, walk-passed, walk-ends, walk-whole}
 use Rattle.records.proofs.ReadLaws.{passed-bytes, passed-rules}
 use Rattle.records.proofs.TableLaws.{table-fits}
 use Rattle.records.proofs.WriteLaws.{table-unique}
@@ -30,16 +30,6 @@ use Rattle.point.specs.Validate.{slotRefusal, validateOf}
 use Rattle.point.specs.Table.{tableOf, keyPlace, keyOf, keySlot, HoldsTable, Belongs, OneBelow}
 use Rattle.point.proofs.HeaderLaws.{headed, slot-low}
 use Rattle.point.proofs.ValidateLaws.{passed, checked-near, slotted}
-
--- ---- places
-
-place-apart : (bytes : List ℕ) (p i j : ℕ) → entryPlace bytes p i ≡ entryPlace bytes p j → i ≡ j
-place-apart bytes p i j e = go (leb i j) refl
-  where
-    go : (t : Bool) → leb i j ≡ t → i ≡ j
-    go true q =
-        ⊎-elim (λ (z : i ≡ j). z) (λ (l : i < j). absurd (let z = place-rises bytes p i j l in omega arith)) (eq-or-lt-of-le (leb-true i j q))
-    go false q = absurd (let z = place-rises bytes p j i (leb-false i j q) in omega arith)
 
 -- ---- the table
 

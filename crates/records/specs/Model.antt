@@ -1,7 +1,7 @@
 -- The record list that an arena stands for, and its bytes (document 01, "Layouts").
 use Prim.Native.Nat.{ℕ, _-_, _^_, _<_}
 use mathlib.Core.List.{List, [], _∷_, _++_}
-use mathlib.Core.Bool.{Bool, true, false, cond, _&&_}
+use mathlib.Core.Bool.{Bool, true, cond, _&&_}
 use mathlib.Core.Option.{Option, none, some}
 use mathlib.Core.Path.{_≡_}
 use lib.ListN.{length}
