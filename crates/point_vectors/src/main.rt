@@ -108,3 +108,131 @@ fn record_agrees(r: Record, p: &[u8], at: usize) -> bool
     }
     r.length as u64 == vectors::u64_in(p, at + 17)
 }
+
+// The value handed back is the part of the data that the record names.
+fn value_agrees(r: Record, bytes: &[u8], value: &[u8]) -> bool {
+    if bytes.len() as u64 < r.offset {
+        return false;
+    }
+    let from = r.offset as usize;
+    if bytes.len() - from < r.length as usize {
+        return false;
+    }
+    let to = from + r.length as usize;
+    words::part::same(&bytes[from..to], value)
+}
+
+// The answer and the value as they stand at a place: u8 0 nothing, 1 found or 14; then the record.
+fn answer_agrees(answer: Answer, bytes: &[u8], value: &[u8], p: &[u8], at: usize) -> bool
+    requires { ⌜ at ≤ 4294967296 ⌝ }
+{
+    let number = vectors::u8_in(p, at);
+    match answer {
+        Answer::Found(r) => {
+            if number != 1 {
+                return false;
+            }
+            if !record_agrees(r, p, at + 1) {
+                return false;
+            }
+            value_agrees(r, bytes, value)
+        }
+        Answer::Nothing => {
+            if number != 0 {
+                return false;
+            }
+            value.len() == 0
+        }
+        Answer::Refused(n) => {
+            if number != n {
+                return false;
+            }
+            value.len() == 0
+        }
+    }
+}
+
+// 22: patched body, u64 data length, bytes key, u8 limit given, u64 limit -> the answer.
+fn get_agrees(base: &[u8], p: &[u8]) -> bool {
+    let mut room = [0u8; 4096];
+    let size = patched(base, p, &mut room);
+    let at = after_patches(p);
+    let end = vectors::bytes_end(p, at + 8);
+    if p.len() - end != 35 {
+        return false;
+    }
+    let length = vectors::u64_in(p, at);
+    if 4096 < length {
+        return false;
+    }
+    let bytes = data();
+    let lent = length as usize;
+    let limit = limit_in(p, end);
+    let key = vectors::bytes_in(p, at + 8);
+    let answer = point::get(&room[..size], &bytes[..lent], key, limit);
+    let value = point::value(&room[..size], &bytes[..lent], key, limit);
+    answer_agrees(answer, &bytes[..lent], value, p, end + 9)
+}
+
+impl Tally {
+    fn new() -> Self {
+        Tally {
+            validate: Count::new(),
+            get: Count::new(),
+            other: Count::new(),
+            body: 0,
+        }
+    }
+
+    // Replays the case whose payload is the `bytes` field at a place of the file.
+    fn replayed(mut self, file: &[u8], op: u8, place: usize) -> Tally {
+        let p = vectors::bytes_in(file, place);
+        let body = self.body;
+        if op == 0x20 {
+            self.body = vectors::end_in(file, place, 4);
+        } else if op == 0x21 {
+            self.validate = self
+                .validate
+                .counted(validate_agrees(vectors::bytes_in(file, body), p));
+        } else if op == 0x22 {
+            self.get = self
+                .get
+                .counted(get_agrees(vectors::bytes_in(file, body), p));
+        } else {
+            self.other = self.other.counted(false);
+        }
+        self
+    }
+}
+
+// Replays a file to its end; what is no whole case counts as one that differs.
+fn replay(file: &[u8]) -> Tally {
+    let mut tally = Tally::new();
+    let File::Cases(first) = Cursor::open(file) else {
+        return tally.replayed(file, 0, 0);
+    };
+    let mut cursor = first;
+    loop {
+        match cursor.next(file) {
+            Next::Case { op, place, next } => {
+                tally = tally.replayed(file, op, place);
+                cursor = next;
+            }
+            Next::End => {
+                return tally;
+            }
+            Next::Damaged => {
+                return tally.replayed(file, 0, 0);
+            }
+        }
+    }
+}
+
+fn main() {
+    let mut buffer = vectors::buffer();
+    let n = io::read_full(0, &mut buffer);
+    let tally = replay(&buffer[..n]);
+    vectors::report(b"validate", tally.validate);
+    vectors::report(b"get", tally.get);
+    vectors::report(b"other", tally.other);
+}
