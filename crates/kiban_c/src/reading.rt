@@ -51,7 +51,8 @@ fn put_record(answer: &mut [u64], r: Record)
     requires { ⌜ 4 ≤ length (now answer) ⌝ }
     ensures { λ _. ⌜ now (answer .exit) ≡ splice (now (answer .entry)) 0 (answerValues (Found r)) ⌝ }
 {
-    answer[0] = kind_number(r.kind);
+    let kind = r.kind;
+    answer[0] = kind_number(kind);
     answer[1] = r.sequence;
     answer[2] = r.offset;
     answer[3] = r.length as u64;

@@ -8,7 +8,8 @@ use vectors::Count;
 use vectors::Cursor;
 use vectors::File;
 use vectors::Next;
-ghost use Prim.Native.Nat.{_≤_};
+ghost use Prim.Native.Nat.{_+_, _≤_};
+ghost use lib.ListN.{length};
 
 // The counts of each op, and of what is none of them or no whole case; and where the base body stands in the file, a `bytes` field.
 struct Tally {
@@ -46,7 +47,9 @@ fn patched(base: &[u8], p: &[u8], out: &mut [u8; 4096]) -> usize
 }
 
 // The place after the patches of a payload.
-fn after_patches(p: &[u8]) -> usize {
+fn after_patches(p: &[u8]) -> usize
+    ensures { λ r. ⌜ r ≤ 1280 ⌝ }
+{
     5 + 5 * vectors::u8_in(p, 4) as usize
 }
 
@@ -77,7 +80,7 @@ fn data() -> [u8; 4096] {
 
 // The limit at a place: u8 given, u64 limit.
 fn limit_in(p: &[u8], at: usize) -> Limit
-    requires { ⌜ at ≤ 4294967296 ⌝ }
+    requires { ⌜ at + 9 ≤ length (now p) ⌝ }
 {
     if vectors::u8_in(p, at) == 0 {
         return Limit::None;
@@ -95,9 +98,10 @@ fn kind_byte(kind: Kind) -> u8 {
 
 // The record whose kind, sequence, offset and length stand at a place.
 fn record_agrees(r: Record, p: &[u8], at: usize) -> bool
-    requires { ⌜ at ≤ 4294967296 ⌝ }
+    requires { ⌜ at + 25 ≤ length (now p) ⌝ }
 {
-    if kind_byte(r.kind) != vectors::u8_in(p, at) {
+    let kind = r.kind;
+    if kind_byte(kind) != vectors::u8_in(p, at) {
         return false;
     }
     if r.sequence != vectors::u64_in(p, at + 1) {
@@ -111,7 +115,7 @@ fn record_agrees(r: Record, p: &[u8], at: usize) -> bool
 
 // The value handed back is the part of the data that the record names.
 fn value_agrees(r: Record, bytes: &[u8], value: &[u8]) -> bool {
-    if bytes.len() as u64 < r.offset {
+    if (bytes.len() as u64) < r.offset {
         return false;
     }
     let from = r.offset as usize;
@@ -124,7 +128,7 @@ fn value_agrees(r: Record, bytes: &[u8], value: &[u8]) -> bool {
 
 // The answer and the value as they stand at a place: u8 0 nothing, 1 found or 14; then the record.
 fn answer_agrees(answer: Answer, bytes: &[u8], value: &[u8], p: &[u8], at: usize) -> bool
-    requires { ⌜ at ≤ 4294967296 ⌝ }
+    requires { ⌜ at + 26 ≤ length (now p) ⌝ }
 {
     let number = vectors::u8_in(p, at);
     match answer {
@@ -152,12 +156,26 @@ fn answer_agrees(answer: Answer, bytes: &[u8], value: &[u8], p: &[u8], at: usize
     }
 }
 
+// Whether get and value agree with a payload: key at `at`, limit and answer at `end`.
+fn reading_agrees(body: &[u8], bytes: &[u8], p: &[u8], at: usize, end: usize) -> bool
+    requires { ⌜ end + 35 ≤ length (now p) ⌝ }
+{
+    let limit = limit_in(p, end);
+    let key = vectors::bytes_in(p, at);
+    let answer = point::get(body, bytes, key, limit);
+    let value = point::value(body, bytes, key, limit);
+    answer_agrees(answer, bytes, value, p, end + 9)
+}
+
 // 22: patched body, u64 data length, bytes key, u8 limit given, u64 limit -> the answer.
 fn get_agrees(base: &[u8], p: &[u8]) -> bool {
     let mut room = [0u8; 4096];
     let size = patched(base, p, &mut room);
     let at = after_patches(p);
     let end = vectors::bytes_end(p, at + 8);
+    if p.len() < end {
+        return false;
+    }
     if p.len() - end != 35 {
         return false;
     }
@@ -165,13 +183,9 @@ fn get_agrees(base: &[u8], p: &[u8]) -> bool {
     if 4096 < length {
         return false;
     }
-    let bytes = data();
     let lent = length as usize;
-    let limit = limit_in(p, end);
-    let key = vectors::bytes_in(p, at + 8);
-    let answer = point::get(&room[..size], &bytes[..lent], key, limit);
-    let value = point::value(&room[..size], &bytes[..lent], key, limit);
-    answer_agrees(answer, &bytes[..lent], value, p, end + 9)
+    let bytes = data();
+    reading_agrees(&room[..size], &bytes[..lent], p, at + 8, end)
 }
 
 impl Tally {
@@ -191,12 +205,10 @@ impl Tally {
         if op == 0x20 {
             self.body = vectors::end_in(file, place, 4);
         } else if op == 0x21 {
-            self.validate = self
-                .validate
+            self.validate = self.validate
                 .counted(validate_agrees(vectors::bytes_in(file, body), p));
         } else if op == 0x22 {
-            self.get = self
-                .get
+            self.get = self.get
                 .counted(get_agrees(vectors::bytes_in(file, body), p));
         } else {
             self.other = self.other.counted(false);
