@@ -1,1 +1,2 @@
 pub mod BuildLaws
+mod ReadingLaws
