@@ -22,7 +22,12 @@ struct Tally {
 fn position_agrees(p: &[u8], s: Sizes, cells: usize, i: usize) -> bool {
     if i < 4 {
         if header::fits(s, cells) {
-            let at = fuse::cell(s.segment as usize, s.count as usize, vectors::u64_in(p, 0), i);
+            let at = fuse::cell(
+                s.segment as usize,
+                s.count as usize,
+                vectors::u64_in(p, 0),
+                i,
+            );
             return at == vectors::u32_in(p, 16 + 4 * i) as usize;
         }
     }
@@ -169,7 +174,8 @@ impl Tally {
             self.base = place;
         } else if op == 0x33 {
             let base = vectors::bytes_in(file, self.base);
-            self.asked = self.asked.counted(asked_agrees(vectors::bytes_in(base, 0), p));
+            self.asked = self.asked
+                .counted(asked_agrees(vectors::bytes_in(base, 0), p));
         } else {
             self.other = self.other.counted(false);
         }

@@ -11,7 +11,15 @@ use filter::SstFilter;
 use fuse::Sizes;
 
 // Puts six words in front.
-fn put_six(answer: &mut [u64], kind: u64, keys: u64, seed: u64, segment: u64, count: u64, cells: u64)
+fn put_six(
+    answer: &mut [u64],
+    kind: u64,
+    keys: u64,
+    seed: u64,
+    segment: u64,
+    count: u64,
+    cells: u64,
+)
     requires { ⌜ 6 ≤ length (now answer) ⌝ }
     ensures { λ _. ⌜ now (answer .exit) ≡ splice (now (answer .entry)) 0 (kind ∷ keys ∷ seed ∷ segment ∷ count ∷ cells ∷ []) ⌝ }
 {
@@ -49,7 +57,15 @@ pub extern "C" fn kiban_filter_read(bytes: &[u8], answer: &mut [u64]) -> u64
         }
         SstFilter::Fuse(s) => {
             let cells = (bytes.len() - Sizes::HEADER) as u64;
-            put_six(answer, 1, s.keys, s.seed, s.segment as u64, s.count as u64, cells);
+            put_six(
+                answer,
+                1,
+                s.keys,
+                s.seed,
+                s.segment as u64,
+                s.count as u64,
+                cells,
+            );
             0
         }
         SstFilter::Refused => 15,

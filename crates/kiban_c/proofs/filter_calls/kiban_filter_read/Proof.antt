@@ -1,70 +1,70 @@
+-- `kiban_filter_read` meets its contract. Assumes nothing.
+use mathlib.Core.Path.{_≡_, refl, sym, ap, _∙_}
+use mathlib.Core.List.{[], _∷_}
+use Prim.Native.Nat.{ℕ}
+use native.Mathlib.Omega.{arith}
+use Rattle.words.specs.Field.{splice}
+use Rattle.filter.specs.declared.SstFilter.the-variants.{Positive, Fuse, Refused}
+use Rattle.kiban_c.proofs.FilterCallLaws.{read-lent-short, read-lent, fuse-cells}
 use borrow.Author.Needs.{needs}
 use Rattle.kiban_c.proofs.filter_calls.kiban_filter_read.Statement.{statement}
 use Rattle.kiban_c.proofs.filter_calls.kiban_filter_read.Tie as tie
-use Rattle.kiban_c.proofs.filter_calls.kiban_filter_read.Reads as reads
-use Rattle.kiban_c.proofs.filter_calls.kiban_filter_read.Lts as lts
-use Rattle.filter.proofs.read.Reads as read-reads
-use Rattle.kiban_c.proofs.filter_calls.put_six.Reads as put-six-reads
 
--- src/filter_calls.rt:31:9
 returns : tie.Need-returns
-returns c = search needs
+returns c = read-lent-short (c .before .before .before .args .bytes .now) (c .before .before .before .args .answer .now) (c .if1 .taken)
 
--- src/filter_calls.rt:33:11
 read-requires : tie.Need-read-requires
 read-requires c κs = search needs
 
--- src/filter_calls.rt:35:21
 enum-told : tie.Need-enum-told
 enum-told c = search needs
 
--- src/filter_calls.rt:35:13
 put-six-requires : tie.Need-put-six-requires
 put-six-requires c κs = search needs
 
--- src/filter_calls.rt:38:25
 enum-known-s : tie.Need-enum-known-s
 enum-known-s c = search needs
 
--- src/filter_calls.rt:39:26
 sub-cells : tie.Need-sub-cells
-sub-cells c = search needs
+sub-cells c =
+    let e = sym (c .before .before .before .read .ensures) ∙ c .before .s .given .1 in
+    omega (arith, fuse-cells (c .before .before .before .before .before .before .before .args .bytes .now) (c .before .s .given .0 .0) e .0)
 
--- src/filter_calls.rt:40:48
 cast-put-six : tie.Need-cast-put-six
 cast-put-six c = search needs
 
--- src/filter_calls.rt:40:66
 cast-put-six-2 : tie.Need-cast-put-six-2
 cast-put-six-2 c = search needs
 
--- src/filter_calls.rt:40:13
 put-six-requires-2 : tie.Need-put-six-requires-2
 put-six-requires-2 c κs = search needs
 
--- src/filter_calls.rt:43:31
 enum-told-2 : tie.Need-enum-told-2
 enum-told-2 c = search needs
 
--- src/filter_calls.rt:26:1
 same-length : tie.Need-same-length
 same-length c = search needs
 
--- src/filter_calls.rt:26:1
 returns-2 : tie.Need-returns-2
-returns-2 c = search needs
+returns-2 c =
+    let a = c .before .before .before .before .before .before .before .before .before .before .args in
+    read-lent (a .bytes .now) (a .answer .now) Positive (sym (c .before .before .before .before .before .before .read .ensures) ∙ c .before .before .before .before .enum-told .given .1) (c .before .before .before .before .before .before .before .if1 .left) _ (c .before .before .put-six .ensures)
 
--- src/filter_calls.rt:26:1
 same-length-2 : tie.Need-same-length-2
 same-length-2 c = search needs
 
--- src/filter_calls.rt:26:1
 returns-3 : tie.Need-returns-3
-returns-3 c = search needs
+returns-3 c =
+    let a = c .before .before .before .before .before .before .before .before .before .before .before .before .before .args in
+    let s = c .before .before .before .before .before .before .before .s .given .0 .0 in
+    let e = sym (c .before .before .before .before .before .before .before .before .before .read .ensures) ∙ c .before .before .before .before .before .before .before .s .given .1 in
+    read-lent (a .bytes .now) (a .answer .now) (Fuse s) e (c .before .before .before .before .before .before .before .before .before .before .if1 .left) _
+    (c .before .before .put-six2 .ensures ∙ ap (λ (n : ℕ). splice (a .answer .now) 0 (1 ∷ s .keys ∷ s .seed ∷ s .segment ∷ s .count ∷ n ∷ [])) (fuse-cells (a .bytes .now) s e .1))
 
--- src/filter_calls.rt:26:1
 returns-4 : tie.Need-returns-4
-returns-4 c = search needs
+returns-4 c =
+    let a = c .before .before .before .before .before .before .args in
+    read-lent (a .bytes .now) (a .answer .now) Refused (sym (c .before .before .read .ensures) ∙ c .enum-told2 .given .1) (c .before .before .before .if1 .left) _ refl
 
 pub kiban-filter-read-spec : {M : Type 1} → statement M
 kiban-filter-read-spec =

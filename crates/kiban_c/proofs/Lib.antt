@@ -1,0 +1,2 @@
+pub mod FilterCallLaws
+pub mod UniqueLaws
