@@ -1,13 +1,12 @@
 -- Laws of the four positions: each lies in a segment of its own, so they are below the cells and pairwise apart. Assumes nothing.
 use mathlib.Core.Path.{_≡_, refl, sym, ap, ap₂, _∙_, subst}
-use mathlib.Core.List.{List, [], _∷_}
 use Prim.Native.Nat.{ℕ, zero, suc, _+_, _-_, _*_, _/_, _%_, _^_, _≤_, _<_}
 use native.Mathlib.Nat.{add-zero, mul-comm, mul-le-mul-right, le-of-lt, div-le-of-le-mul, mod-lt, div-eq-of-lt, add-mul-div-right, div-lt-iff-lt-mul, mul-lt-mul-of-pos-left, mul-pos, add-left-cancel}
 use native.Mathlib.Omega.{arith}
 use lib.Bits.{bitXor, bitAnd, and-mask, xor-shr, xor-zero-r}
 use lib.ListN.{length, getD}
 use lib.Pow.{pow-pos}
-use Rattle.laws.specs.Power.{PowerOfTwo, power-pos}
+use Rattle.laws.specs.Power.{PowerOfTwo}
 use Rattle.fuse.specs.Positions.{cellsIn, Usable, firstOf, cellOf, positionsOf}
 
 -- position i lies in the segment i behind that of a: xor with a number below the segment stays in it

@@ -1,9 +1,11 @@
-// A filter's sizes, and the four cells of a hash.
+// A filter's sizes, the four cells of a hash, and the header in front of the cells.
 ghost use mathlib.Core.Path.{_≡_};
 ghost use Prim.Native.Nat.{_<_};
 ghost use lib.ListN.{length};
 ghost use Rattle.fuse.specs.Positions.{Usable, cellsIn, cellOf, positionsOf};
 ghost use Rattle.fuse.specs.Asking.{graphHash, xorAt, Fits, containsOf};
+
+pub mod header;
 
 // What a Fuse header says; the cells stand beside it.
 pub struct Sizes {
@@ -11,6 +13,17 @@ pub struct Sizes {
     pub seed: u64,
     pub segment: u32,
     pub count: u32,
+}
+
+impl Sizes {
+    // The bytes in front of the cells.
+    pub const HEADER: usize = 48;
+
+    pub const LARGEST_SEGMENT: u32 = 262_144;
+
+    pub const LARGEST_KEYS: u64 = 0xffff_ffff;
+
+    pub const LARGEST_CELLS: usize = 0xffff_ffff;
 }
 
 // Position i of the hash h: the first is a, each other lies in a segment of its own behind it.
