@@ -8,7 +8,7 @@ use mathlib.Core.List.{List, [], _∷_, _++_}
 use lib.ListN.{length, getD, drop, set, length-append, drop-of-length-le}
 use lib.Seq.{sets, drop-cons}
 use Rattle.text.specs.Text.{hexDigit, hexOf}
-use Rattle.text.specs.Written.{Written}
+use Rattle.text.specs.Written.{Ends, Written}
 
 pub sets-append : (before : List ℕ) (at : ℕ) (s t : List ℕ) → sets before at (s ++ t) ≡ sets (sets before at s) (at + length s) t
 sets-append before at [] t = rw add-zero
@@ -22,6 +22,13 @@ module _ {before middle after s t : List ℕ} {at place end : ℕ} where
         buffer = w .buffer ∙ rw (v .buffer, v .place) (sym (sets-append before at s t));
         place = w .place ∙ rw (v .place, length-append) (add-assoc at (length s) (length t));
       }
+
+-- where a text of two parts ends at a place that can be named, so does its first part, and so does its second behind the first
+pub ends-first : {at : ℕ} {s : List ℕ} (t : List ℕ) → Ends at (s ++ t) → Ends at s
+ends-first t h = record { inside = omega (arith, rw length-append at (h .inside)) }
+
+pub ends-second : {before s middle t : List ℕ} {at place : ℕ} → Written before at s middle place → Ends at (s ++ t) → Ends place t
+ends-second w h = record { inside = omega (arith, rw length-append at (h .inside), w .place) }
 
 -- ---- a text put byte by byte, from its i-th on
 

@@ -1,8 +1,10 @@
 -- Numbers and byte strings as text, in ASCII.
-use Prim.Native.Nat.{ℕ, zero, suc, _+_, _/_, _%_}
+use Prim.Native.Nat.{ℕ, zero, suc, _+_, _/_, _%_, _<_}
+use mathlib.Core.Path.{_≡_}
 use mathlib.Core.Bool.{cond}
 use mathlib.Core.List.{List, [], _∷_, _++_}
 use lib.Dec.{ltb}
+use lib.ListN.{length, drop}
 
 -- the decimal digits of n, the most significant first, in at most so many steps
 unfoldable pub digitsIn : ℕ → ℕ → List ℕ
@@ -12,6 +14,12 @@ digitsIn (suc steps) n = cond (ltb n 10) ((48 + n) ∷ []) (digitsIn steps (n / 
 -- the decimal digits of n: a number has no more of them than n + 1
 unfoldable pub decimal : ℕ → List ℕ
 decimal n = digitsIn (suc n) n
+
+-- the digits of n stand at the end of an array of 20 bytes
+pub record Laid (n from : ℕ) (bytes : List ℕ) : Type 0 where
+  pub here : from < 20
+  pub whole : length bytes ≡ 20
+  pub digits : drop from bytes ≡ decimal n
 
 -- a digit in lower-case hex
 abbrev pub hexDigit : ℕ → ℕ

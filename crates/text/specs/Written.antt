@@ -6,8 +6,8 @@ use lib.ListN.{length}
 use lib.Seq.{sets}
 
 -- the text from `at` on ends at a place that can be named
-abbrev pub Ends : ℕ → List ℕ → Type 0
-Ends at text = at + length text < 2 ^ 64
+pub record Ends (at : ℕ) (text : List ℕ) : Type 0 where
+  pub inside : at + length text < 2 ^ 64
 
 -- the buffer after the text was put from `at` on, what lies past the buffer's end being left out, and the place after the text
 pub record Written (before : List ℕ) (at : ℕ) (text after : List ℕ) (end : ℕ) : Type 0 where

@@ -3,8 +3,8 @@
 ghost use mathlib.Core.Path.{_≡_};
 ghost use mathlib.Core.List.{[], _∷_};
 ghost use Prim.Native.Nat.{_<_};
-ghost use lib.ListN.{set, drop};
-ghost use Rattle.text.specs.Text.{decimal, hexDigit, hexOf, keyText, field, named};
+ghost use lib.ListN.{set};
+ghost use Rattle.text.specs.Text.{decimal, Laid, hexDigit, hexOf, keyText, field, named};
 ghost use Rattle.text.specs.Written.{Ends, Written};
 
 // The decimal digits of a number, at the end of an array.
@@ -46,7 +46,7 @@ pub fn put_word(out: &mut [u8], at: usize, word: &[u8]) -> usize
 
 // The decimal digits of n.
 fn digits_of(n: u64) -> Digits
-    ensures { λ r. ⌜ drop (r .from) (r .bytes) ≡ decimal n ⌝ }
+    ensures { λ r. ⌜ Laid n (r .from) (r .bytes) ⌝ }
 {
     let mut bytes = [0u8; 20];
     let mut from: usize = 19;

@@ -1,3 +1,4 @@
+-- `digits_of` lays the digits down from the array's end. The loop's invariant: the digits of what is left, with those laid, are the number's. Assumes nothing.
 use Prim.Native.Nat.{_+_, _<_}
 use native.Mathlib.Omega.{arith}
 use mathlib.Core.Path.{_≡_, refl, sym, ap, _∙_}
@@ -8,8 +9,6 @@ use Rattle.text.proofs.TextLaws.{digits-room, digits-on, digits-end}
 use borrow.Author.Needs.{needs}
 use Rattle.text.proofs.digits_of.Statement.{statement}
 use Rattle.text.proofs.digits_of.Tie as tie
-use Rattle.text.proofs.digits_of.Reads as reads
-use Rattle.text.proofs.digits_of.Lts as lts
 
 abbrev Inv-loop : tie.InvT-loop
 Inv-loop n bytes₀ from₀ rest₀ bytes from rest = (length bytes ≡ 20) × (from < 20) × (decimal rest ++ drop (from + 1) bytes ≡ decimal n)
@@ -17,47 +16,36 @@ Inv-loop n bytes₀ from₀ rest₀ bytes from rest = (length bytes ≡ 20) × (
 abbrev μ-loop : tie.MeasureT-loop
 μ-loop n bytes₀ from₀ rest₀ bytes from rest = rest
 
--- src/lib.rt:54:5
 loop-holds : tie.Need-loop-holds Inv-loop μ-loop
 loop-holds c = (refl, search needs, append-nil _)
 
--- src/lib.rt:55:24
 add-bytes : tie.Need-add-bytes Inv-loop μ-loop
 add-bytes c = search needs
 
--- src/lib.rt:55:23
 cast-bytes : tie.Need-cast-bytes Inv-loop μ-loop
 cast-bytes c = search needs
 
--- src/lib.rt:55:9
 array-write-bytes : tie.Need-array-write-bytes Inv-loop μ-loop
 array-write-bytes c = search needs
 
--- src/lib.rt:56:9
 sub-from : tie.Need-sub-from Inv-loop μ-loop
 sub-from c = let l = c .before .loop in digits-room _ (l .rest) (l .from) (l .bytes) (l .inv .0) (l .inv .1) (l .inv .2) (omega arith) (c .loop-test .taken)
 
--- src/lib.rt:54:5
 loop-less : tie.Need-loop-less Inv-loop μ-loop
 loop-less c = search needs
 
--- src/lib.rt:54:5
 loop-again : tie.Need-loop-again Inv-loop μ-loop
 loop-again c = let l = c .before .loop in let f = digits-room _ (l .rest) (l .from) (l .bytes) (l .inv .0) (l .inv .1) (l .inv .2) (omega arith) (omega arith) in (length-set (l .bytes) (l .from) _ ∙ l .inv .0, omega arith, digits-on _ (l .rest) (l .from) (l .bytes) (l .inv .0) (l .inv .1) (l .inv .2) (omega arith) f)
 
--- src/lib.rt:59:20
 add-bytes-2 : tie.Need-add-bytes-2 Inv-loop μ-loop
 add-bytes-2 c = search needs
 
--- src/lib.rt:59:19
 cast-bytes-2 : tie.Need-cast-bytes-2 Inv-loop μ-loop
 cast-bytes-2 c = search needs
 
--- src/lib.rt:59:5
 array-write-bytes-2 : tie.Need-array-write-bytes-2 Inv-loop μ-loop
 array-write-bytes-2 c = search needs
 
--- src/lib.rt:48:1
 returns : tie.Need-returns Inv-loop μ-loop
 returns c = let l = c .before .loop in digits-end _ (l .rest) (l .from) (l .bytes) (l .inv .0) (l .inv .1) (l .inv .2) (omega arith)
 

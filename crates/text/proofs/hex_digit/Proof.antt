@@ -1,23 +1,18 @@
+-- `hex_digit` is `hexDigit`, by its test. Assumes nothing.
 use borrow.Author.Tests.{lt-ltb, le-ltb}
 use borrow.Author.Needs.{needs}
 use Rattle.text.proofs.hex_digit.Statement.{statement}
 use Rattle.text.proofs.hex_digit.Tie as tie
-use Rattle.text.proofs.hex_digit.Reads as reads
-use Rattle.text.proofs.hex_digit.Lts as lts
 
--- src/lib.rt:80:16
 add-result : tie.Need-add-result
 add-result c = search needs
 
--- src/lib.rt:80:9
 returns : tie.Need-returns
 returns c = rw (lt-ltb _ 10 (c .if1 .taken))
 
--- src/lib.rt:82:5
 add-result-2 : tie.Need-add-result-2
 add-result-2 c = search needs
 
--- src/lib.rt:75:1
 returns-2 : tie.Need-returns-2
 returns-2 c = rw (le-ltb _ 10 (c .if1 .left))
 

@@ -1,3 +1,4 @@
+-- `put_hex` writes its bytes in hex. The loop's invariant: putting the rest from here on gives what putting the whole gives. Assumes nothing.
 use Prim.Native.Nat.{_+_, _*_, _-_, _≤_}
 use native.Mathlib.Omega.{arith}
 use mathlib.Core.Path.{_≡_, refl, sym, ap, _∙_}
@@ -9,10 +10,6 @@ use Rattle.text.proofs.WrittenLaws.{hex-step, hex-done}
 use borrow.Author.Needs.{needs}
 use Rattle.text.proofs.put_hex.Statement.{statement}
 use Rattle.text.proofs.put_hex.Tie as tie
-use Rattle.text.proofs.put_hex.Reads as reads
-use Rattle.text.proofs.put_hex.Lts as lts
-use Rattle.text.proofs.hex_digit.Reads as hex-digit-reads
-use Rattle.text.proofs.store.Reads as store-reads
 
 abbrev Inv-loop : tie.InvT-loop
 Inv-loop out₀ at bytes p₀ i₀ out p i = (i ≤ length bytes) × (p ≡ at + 2 * i) × (sets out p (hexOf (drop i bytes)) ≡ sets out₀ at (hexOf bytes)) × (length out ≡ length out₀)
@@ -20,47 +17,36 @@ Inv-loop out₀ at bytes p₀ i₀ out p i = (i ≤ length bytes) × (p ≡ at +
 abbrev μ-loop : tie.MeasureT-loop
 μ-loop out₀ at bytes p₀ i₀ out p i = length bytes - i
 
--- src/lib.rt:92:5
 loop-holds : tie.Need-loop-holds Inv-loop μ-loop
 loop-holds c = (search needs, search needs, refl, refl)
 
--- src/lib.rt:93:17
 shared-slice-read-b : tie.Need-shared-slice-read-b Inv-loop μ-loop
 shared-slice-read-b c = search needs
 
--- src/lib.rt:94:23
 hex-digit-requires : tie.Need-hex-digit-requires Inv-loop μ-loop
 hex-digit-requires c κs = let b = c .before .shared-slice-known2 .given (c .before .before .before .loop .i) .fits in omega arith
 
--- src/lib.rt:94:9
 store-requires : tie.Need-store-requires Inv-loop μ-loop
 store-requires c κs = search needs
 
--- src/lib.rt:95:20
 add-store : tie.Need-add-store Inv-loop μ-loop
-add-store c = omega (arith, hex-length (c .before .before .before .before .before .before .before .before .before .before .before .args .bytes .now), c .before .before .before .before .before .before .before .before .loop .inv .1, c .before .before .before .before .before .before .before .before .before .before .before .pre, c .before .before .before .before .before .before .before .loop-test)
+add-store c = omega (arith, hex-length (c .before .before .before .before .before .before .before .before .before .before .before .args .bytes .now), c .before .before .before .before .before .before .before .before .loop .inv .1, c .before .before .before .before .before .before .before .before .before .before .before .pre .inside, c .before .before .before .before .before .before .before .loop-test)
 
--- src/lib.rt:95:27
 hex-digit-requires-2 : tie.Need-hex-digit-requires-2 Inv-loop μ-loop
 hex-digit-requires-2 c κs = omega arith
 
--- src/lib.rt:95:9
 store-requires-2 : tie.Need-store-requires-2 Inv-loop μ-loop
 store-requires-2 c κs = search needs
 
--- src/lib.rt:96:9
 add-p : tie.Need-add-p Inv-loop μ-loop
-add-p c = omega (arith, hex-length (c .before .before .before .before .before .before .before .before .before .before .before .before .before .before .before .args .bytes .now), c .before .before .before .before .before .before .before .before .before .before .before .before .loop .inv .1, c .before .before .before .before .before .before .before .before .before .before .before .before .before .before .before .pre, c .before .before .before .before .before .before .before .before .before .before .before .loop-test)
+add-p c = omega (arith, hex-length (c .before .before .before .before .before .before .before .before .before .before .before .before .before .before .before .args .bytes .now), c .before .before .before .before .before .before .before .before .before .before .before .before .loop .inv .1, c .before .before .before .before .before .before .before .before .before .before .before .before .before .before .before .pre .inside, c .before .before .before .before .before .before .before .before .before .before .before .loop-test)
 
--- src/lib.rt:97:9
 add-i : tie.Need-add-i Inv-loop μ-loop
 add-i c = search needs
 
--- src/lib.rt:92:5
 loop-less : tie.Need-loop-less Inv-loop μ-loop
 loop-less c = search needs
 
--- src/lib.rt:92:5
 loop-again : tie.Need-loop-again Inv-loop μ-loop
 loop-again c =
     let l = c .before .before .before .before .before .before .before .before .before .before .before .before .loop in
@@ -72,11 +58,9 @@ loop-again c =
       c .before .before .store2 .kept .0 ∙ c .before .before .before .before .before .before .before .store .kept .0 ∙ l .inv .3,
     )
 
--- src/lib.rt:86:1
 same-length : tie.Need-same-length Inv-loop μ-loop
 same-length c = c .before .loop .inv .3
 
--- src/lib.rt:86:1
 returns : tie.Need-returns Inv-loop μ-loop
 returns c =
     let l = c .before .loop in

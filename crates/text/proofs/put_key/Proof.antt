@@ -1,33 +1,24 @@
+-- `put_key` writes `-` or hex, by its test. Assumes nothing.
 use Rattle.text.proofs.TextLaws.{key-none, key-some}
 use borrow.Author.Needs.{needs}
 use Rattle.text.proofs.put_key.Statement.{statement}
 use Rattle.text.proofs.put_key.Tie as tie
-use Rattle.text.proofs.put_key.Reads as reads
-use Rattle.text.proofs.put_key.Lts as lts
-use Rattle.text.proofs.put_byte.Reads as put-byte-reads
-use Rattle.text.proofs.put_hex.Reads as put-hex-reads
 
--- src/lib.rt:108:9
 put-byte-requires : tie.Need-put-byte-requires
 put-byte-requires c κs = rw (key-none _ (c .before .if1 .taken)) at (c .before .before .before .before .pre)
 
--- src/lib.rt:108:9
 same-length : tie.Need-same-length
 same-length c = search needs
 
--- src/lib.rt:108:9
 returns : tie.Need-returns
 returns c = rw (key-none _ (c .before .before .before .before .if1 .taken)) (c .before .before .put-byte .ensures)
 
--- src/lib.rt:110:5
 put-hex-requires : tie.Need-put-hex-requires
 put-hex-requires c κs = rw (key-some _ (c .before .if1 .left)) at (c .before .before .before .before .pre)
 
--- src/lib.rt:103:1
 same-length-2 : tie.Need-same-length-2
 same-length-2 c = search needs
 
--- src/lib.rt:103:1
 returns-2 : tie.Need-returns-2
 returns-2 c = rw (key-some _ (c .before .before .before .before .if1 .left)) (c .before .before .put-hex .ensures)
 

@@ -1,3 +1,4 @@
+-- `put_word` writes its bytes. The loop's invariant: putting the rest from here on gives what putting the whole gives. Assumes nothing.
 use Prim.Native.Nat.{_+_, _-_, _≤_}
 use native.Mathlib.Nat.{add-zero}
 use native.Mathlib.Omega.{arith}
@@ -8,9 +9,6 @@ use Rattle.text.proofs.WrittenLaws.{word-step, word-done}
 use borrow.Author.Needs.{needs}
 use Rattle.text.proofs.put_word.Statement.{statement}
 use Rattle.text.proofs.put_word.Tie as tie
-use Rattle.text.proofs.put_word.Reads as reads
-use Rattle.text.proofs.put_word.Lts as lts
-use Rattle.text.proofs.store.Reads as store-reads
 
 abbrev Inv-loop : tie.InvT-loop
 Inv-loop out₀ at word i₀ out i = (i ≤ length word) × (sets out (at + i) (drop i word) ≡ sets out₀ at word) × (length out ≡ length out₀)
@@ -18,31 +16,24 @@ Inv-loop out₀ at word i₀ out i = (i ≤ length word) × (sets out (at + i) (
 abbrev μ-loop : tie.MeasureT-loop
 μ-loop out₀ at word i₀ out i = length word - i
 
--- src/lib.rt:40:5
 loop-holds : tie.Need-loop-holds Inv-loop μ-loop
 loop-holds c = (search needs, rw add-zero, refl)
 
--- src/lib.rt:41:20
 add-store : tie.Need-add-store Inv-loop μ-loop
 add-store c = search needs
 
--- src/lib.rt:41:28
 shared-slice-read-store : tie.Need-shared-slice-read-store Inv-loop μ-loop
 shared-slice-read-store c = search needs
 
--- src/lib.rt:41:9
 store-requires : tie.Need-store-requires Inv-loop μ-loop
 store-requires c κs = search needs
 
--- src/lib.rt:42:9
 add-i : tie.Need-add-i Inv-loop μ-loop
 add-i c = search needs
 
--- src/lib.rt:40:5
 loop-less : tie.Need-loop-less Inv-loop μ-loop
 loop-less c = search needs
 
--- src/lib.rt:40:5
 loop-again : tie.Need-loop-again Inv-loop μ-loop
 loop-again c =
     let l = c .before .before .before .before .before .before .loop in
@@ -52,15 +43,12 @@ loop-again c =
       c .before .before .store .kept .0 ∙ l .inv .2,
     )
 
--- src/lib.rt:44:5
 add-result : tie.Need-add-result Inv-loop μ-loop
 add-result c = search needs
 
--- src/lib.rt:35:1
 same-length : tie.Need-same-length Inv-loop μ-loop
 same-length c = c .before .loop .inv .2
 
--- src/lib.rt:35:1
 returns : tie.Need-returns Inv-loop μ-loop
 returns c =
     let l = c .before .loop in

@@ -1,24 +1,19 @@
+-- `store` is `set`, which leaves a list as it is where the place is past its end. Assumes nothing.
 use mathlib.Core.Path.{sym}
 use lib.Seq.{set-out}
 use borrow.Author.Needs.{needs}
 use Rattle.text.proofs.store.Statement.{statement}
 use Rattle.text.proofs.store.Tie as tie
-use Rattle.text.proofs.store.Reads as reads
-use Rattle.text.proofs.store.Lts as lts
 
--- src/lib.rt:21:9
 slice-write-out : tie.Need-slice-write-out
 slice-write-out c = search needs
 
--- src/lib.rt:17:1
 same-length : tie.Need-same-length
 same-length c = search needs
 
--- src/lib.rt:17:1
 returns : tie.Need-returns
 returns c = search needs
 
--- src/lib.rt:17:1
 returns-2 : tie.Need-returns-2
 returns-2 c = sym (set-out _ _ _ (c .if1 .left))
 
