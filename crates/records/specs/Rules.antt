@@ -4,7 +4,7 @@ use mathlib.Core.Bool.{Bool, true, false, not, _&&_, _||_}
 use mathlib.Core.List.{List, [], _∷_}
 use lib.Dec.{ltb, eqb}
 use lib.ListN.{length}
-use Rattle.laws.specs.Refusals.{cause, firstOf, orElse}
+use Rattle.laws.specs.Refusals.{Cause, cause, firstOf, orElse}
 use Rattle.words.specs.declared.part.Order.{Order}
 use Rattle.words.specs.declared.part.Order.the-variants.{Less, Equal, Greater}
 use Rattle.words.specs.Part.{orderOf}
@@ -23,15 +23,17 @@ unfoldable pub keyRises : List ℕ → (prev p : ℕ) → Bool
 keyRises bytes prev p = eqb prev p || isLess (orderOf (keyAt bytes prev) (keyAt bytes p))
 
 -- 23 under 8 bytes left, 24 key length over the limit or past the end, or no versions, 25 keys not strictly rising
-unfoldable pub keyRefusal : List ℕ → (prev p : ℕ) → ℕ
-keyRefusal bytes prev p =
-    firstOf
-    (cause (ltb (length bytes) (p + 8)) 23
+abbrev pub keyCauses : List ℕ → (prev p : ℕ) → List Cause
+keyCauses bytes prev p =
+    cause (ltb (length bytes) (p + 8)) 23
     ∷ cause (ltb 1048576 (keyLength bytes p)) 24
     ∷ cause (ltb (length bytes) (firstVersion bytes p)) 24
     ∷ cause (eqb (versionCount bytes p) 0) 24
     ∷ cause (not (keyRises bytes prev p)) 25
-    ∷ [])
+    ∷ []
+
+unfoldable pub keyRefusal : List ℕ → (prev p : ℕ) → ℕ
+keyRefusal bytes prev p = firstOf (keyCauses bytes prev p)
 
 -- kind (1 put, 2 tombstone)
 abbrev pub badKind : ℕ → Bool
@@ -42,21 +44,27 @@ abbrev pub pastData : DataLength → (offset size : ℕ) → Bool
 pastData Untested offset size = false
 pastData (Of n) offset size = ltb n (offset + size)
 
+-- tombstone with length
+abbrev pub fullTombstone : (kind size : ℕ) → Bool
+fullTombstone kind size = eqb kind 2 && not (eqb size 0)
+
 -- the sequence at p is below the one at prev; none stands before where prev is p
 unfoldable pub sequenceFalls : List ℕ → (prev p : ℕ) → Bool
 sequenceFalls bytes prev p = eqb prev p || ltb (sequenceAt bytes p) (sequenceAt bytes prev)
 
 -- 27 under 21 bytes left, 28 kind, 29 value length, offset + length past the data, tombstone with length, sequences not strictly falling
-unfoldable pub versionRefusal : List ℕ → DataLength → (prev p : ℕ) → ℕ
-versionRefusal bytes test prev p =
-    firstOf
-    (cause (ltb (length bytes) (p + 21)) 27
+abbrev pub versionCauses : List ℕ → DataLength → (prev p : ℕ) → List Cause
+versionCauses bytes test prev p =
+    cause (ltb (length bytes) (p + 21)) 27
     ∷ cause (badKind (kindAt bytes p)) 28
     ∷ cause (ltb 16777216 (lengthAt bytes p)) 29
     ∷ cause (pastData test (offsetAt bytes p) (lengthAt bytes p)) 29
-    ∷ cause (eqb (kindAt bytes p) 2 && not (eqb (lengthAt bytes p) 0)) 29
+    ∷ cause (fullTombstone (kindAt bytes p) (lengthAt bytes p)) 29
     ∷ cause (not (sequenceFalls bytes prev p)) 29
-    ∷ [])
+    ∷ []
+
+unfoldable pub versionRefusal : List ℕ → DataLength → (prev p : ℕ) → ℕ
+versionRefusal bytes test prev p = firstOf (versionCauses bytes test prev p)
 
 -- the k versions from p on
 unfoldable pub versionsRefusal : List ℕ → DataLength → (prev p : ℕ) → ℕ → ℕ

@@ -2,8 +2,10 @@
 use Prim.Native.Nat.{ℕ, zero, suc, _+_}
 use mathlib.Core.Bool.{cond}
 use mathlib.Core.List.{List}
+use mathlib.Core.Option.{Option, none, some}
 use lib.Dec.{ltb, leb}
 use lib.ListN.{length}
+use Rattle.records.specs.declared.Record.{Record}
 use Rattle.records.specs.declared.Within.{Within}
 use Rattle.records.specs.declared.Within.the-variants.{Found, Nothing, Damaged}
 use Rattle.records.specs.Places.{sequenceAt, kindAt, recordAt}
@@ -17,3 +19,8 @@ firstWithin bytes limit p (suc k) =
     (cond (badKind (kindAt bytes p)) Damaged
     (cond (leb (sequenceAt bytes p) limit) (Found (recordAt bytes p))
     (firstWithin bytes limit (p + 21) k)))
+
+-- a record that was found, or nothing
+abbrev pub foundOf : Option Record → Within
+foundOf none = Nothing
+foundOf (some r) = Found r

@@ -2,6 +2,11 @@
 ghost use mathlib.Core.Path.{_≡_};
 ghost use Rattle.records.specs.Model.{kindRead, within};
 
+pub mod cursor;
+pub mod rules;
+pub mod search;
+pub mod walk;
+
 // What a record says of its key: it holds a value, or it was withdrawn.
 pub enum Kind {
     Put,

@@ -1,0 +1,12 @@
+pub mod RuleLaws
+pub mod KindLaws
+pub mod SearchLaws
+pub mod WalkLaws
+pub mod CursorLaws
+pub mod TableLaws
+pub mod PassedLaws
+pub mod ReadLaws
+pub mod WriteLaws
+pub mod AcceptLaws
+pub mod WithinLaws
+pub mod Theorems

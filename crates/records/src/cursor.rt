@@ -1,0 +1,91 @@
+// The cursor over entries: an entry's head, a version, and where the next entry stands.
+ghost use mathlib.Core.Path.{_≡_};
+ghost use Prim.Native.Nat.{_+_, _≤_};
+ghost use lib.ListN.{length};
+ghost use Rattle.records.specs.Places.{nextEntry, recordAt};
+ghost use Rattle.records.specs.Cursor.{headAt};
+
+// What the head of an entry says: where its key stands and how long it is, its versions, where the first one stands, and where the next
+// entry does.
+pub struct Head {
+    pub key: usize,
+    pub length: usize,
+    pub versions: u32,
+    pub first: usize,
+    pub next: usize,
+}
+
+// The head read at a place.
+pub enum HeadRead {
+    At(Head),
+    Outside,
+}
+
+impl Head {
+    // The bytes before the key.
+    pub const BYTES: usize = 8;
+
+    // The longest key.
+    pub const MAX_KEY: u32 = 1_048_576;
+}
+
+// The head of the entry at p, where it and its key lie in the bytes.
+pub fn head_at(bytes: &[u8], p: usize) -> HeadRead
+    ensures { λ r. ⌜ r ≡ headAt (now (bytes .entry)) p ⌝ }
+{
+    if bytes.len() < p {
+        return HeadRead::Outside;
+    }
+    if bytes.len() - p < Head::BYTES {
+        return HeadRead::Outside;
+    }
+    let key = p + Head::BYTES;
+    let length = words::field::u32_at(bytes, p) as usize;
+    if bytes.len() - key < length {
+        return HeadRead::Outside;
+    }
+    let versions = words::field::u32_at(bytes, p + 4);
+    let first = key + length;
+    let next = first + super::Record::BYTES * versions as usize;
+    HeadRead::At(Head {
+        key,
+        length,
+        versions,
+        first,
+        next,
+    })
+}
+
+// Where the entry after the one at p stands.
+pub fn next_entry(bytes: &[u8], p: usize) -> usize
+    requires { ⌜ nextEntry (now bytes) p ≤ length (now bytes) ⌝ }
+    ensures { λ r. ⌜ r ≡ nextEntry (now (bytes .entry)) p ⌝ }
+{
+    let length = words::field::u32_at(bytes, p) as usize;
+    let versions = words::field::u32_at(bytes, p + 4) as usize;
+    p + Head::BYTES + length + super::Record::BYTES * versions
+}
+
+// The version at p.
+pub fn record_at(bytes: &[u8], p: usize) -> super::Record
+    requires { ⌜ p + 21 ≤ length (now bytes) ⌝ }
+    ensures { λ r. ⌜ r ≡ recordAt (now (bytes .entry)) p ⌝ }
+{
+    let sequence = words::field::u64_at(bytes, p);
+    let length = words::field::u32_at(bytes, p + 9);
+    let offset = words::field::u64_at(bytes, p + 13);
+    if bytes[p + 8] == super::Kind::PUT {
+        return super::Record {
+            kind: super::Kind::Put,
+            sequence,
+            offset,
+            length,
+        };
+    }
+    super::Record {
+        kind: super::Kind::Tombstone,
+        sequence,
+        offset,
+        length,
+    }
+}
