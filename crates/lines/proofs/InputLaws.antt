@@ -24,8 +24,9 @@ use Rattle.point.specs.Table.{tableOf, keyPlace}
 use Rattle.point.proofs.HeaderLaws.{headed}
 use Rattle.point.proofs.ValidateLaws.{passed}
 use Rattle.point.proofs.SlotLaws.{key-entered, holds-table}
+use Rattle.lines.specs.declared.Listed.{Listed}
 use Rattle.lines.specs.Shown.{Rule, newestTombstone}
-use Rattle.lines.specs.Listing.{tableText, refusedText, limitIn, dataLengthIn, bodyIn, sizeRefusal, listingRefusal, textBy, textOf}
+use Rattle.lines.specs.Listing.{tableText, refusedText, limitIn, dataLengthIn, bodyIn, sizeRefusal, listingRefusal, textBy, textOf, Lists, Listing}
 use Rattle.lines.specs.Needs.{AllStand, Whole}
 use Rattle.lines.proofs.TextLaws.{refused-length}
 use Rattle.lines.proofs.RoomLaws.{table-length}
@@ -75,11 +76,11 @@ refused-by : (rule : Rule) (input : List ℕ) (r : ℕ) → (r ≡ 0 → ⊥) �
 refused-by rule input zero n = absurd (n refl)
 refused-by rule input (suc r) n = refl
 
-pub text-refused : (rule : Rule) (input : List ℕ) (r : ℕ) → r ≡ listingRefusal input → (r ≡ 0 → ⊥) → textOf rule input ≡ refusedText r
+text-refused : (rule : Rule) (input : List ℕ) (r : ℕ) → r ≡ listingRefusal input → (r ≡ 0 → ⊥) → textOf rule input ≡ refusedText r
 unfolding textOf
 text-refused rule input r e n = ap (textBy rule input) (sym e) ∙ refused-by rule input r n
 
-pub text-listed : (rule : Rule) (input : List ℕ) → listingRefusal input ≡ 0 → (limit : ℕ) → limit ≡ limitIn input
+text-listed : (rule : Rule) (input : List ℕ) → listingRefusal input ≡ 0 → (limit : ℕ) → limit ≡ limitIn input
     → textOf rule input ≡ tableText rule limit (tableOf (take (length input - 16) (drop 16 input)))
 unfolding textOf
 text-listed rule input e limit el = ap (textBy rule input) e ∙ sym (rw (part-to-end input 16, el))
@@ -102,7 +103,7 @@ taken-whole {input} t = rw (part-to-end input 16) (accepted-whole (bodyIn input)
 -- ---- room
 
 -- a listing of a table is not longer than twice its input
-pub listed-length : (rule : Rule) (input : List ℕ) (limit : ℕ) → Taken input → AllBytes input → limit ≡ limitIn input → length (tableText rule limit (tableOf (bodyIn input))) ≤ 2 * length input
+listed-length : (rule : Rule) (input : List ℕ) (limit : ℕ) → Taken input → AllBytes input → limit ≡ limitIn input → length (tableText rule limit (tableOf (bodyIn input))) ≤ 2 * length input
 listed-length rule input limit t all el =
     let body = bodyIn input in
     let bytes : AllBytes body = bytes-drop 16 input all in
@@ -116,3 +117,22 @@ listed-length rule input limit t all el =
 pub taken-ends : {input : List ℕ} → Taken input → AllBytes input → (limit : ℕ) → limit ≡ limitIn input → Ends 0 (tableText newestTombstone limit (tableOf (take (length input - 16) (drop 16 input))))
 taken-ends {input} t all limit el =
     rw (part-to-end input 16) (record { inside = omega (arith, listed-length newestTombstone input limit t all el, t .short) })
+
+-- ---- the answer
+
+module _ {rule : Rule} {input before after : List ℕ} {a : Listed} where
+  pub refused-listing : (r : ℕ) → r < 256 → r ≡ listingRefusal input → (r ≡ 0 → ⊥) → Lists (refusedText r) before a after → Listing rule input before a after
+  refused-listing r h e n l =
+      let t = text-refused rule input r e n in
+      record { answer = rw t (l .answer); buffer = rw t (l .buffer); room = rw t (omega (arith, refused-length r, decimal-short r (omega arith))) }
+
+  pub table-listing : (limit : ℕ) → AllBytes input → listingRefusal input ≡ 0 → limit ≡ limitIn input → Lists (tableText rule limit (tableOf (take (length input - 16) (drop 16 input)))) before a after
+      → Listing rule input before a after
+  table-listing limit all e el l =
+      let t = text-listed rule input e limit el in
+      let k = taken input e in
+      record {
+        answer = rw t (l .answer);
+        buffer = rw t (l .buffer);
+        room = rw (t, part-to-end input 16) (omega (arith, listed-length rule input limit k all el, k .short));
+      }

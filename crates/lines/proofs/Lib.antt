@@ -3,3 +3,4 @@ pub mod LinesLaws
 pub mod TextLaws
 pub mod RoomLaws
 pub mod InputLaws
+pub mod Theorems

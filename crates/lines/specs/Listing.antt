@@ -1,5 +1,5 @@
 -- The text of a listing: a function from input bytes to output bytes (document 01, "The listing").
-use Prim.Native.Nat.{ℕ, zero, suc}
+use Prim.Native.Nat.{ℕ, zero, suc, _≤_}
 use mathlib.Core.Path.{_≡_}
 use mathlib.Core.Bool.{cond}
 use mathlib.Core.List.{List, [], _∷_, _++_}
@@ -19,7 +19,7 @@ use Rattle.point.specs.Table.{tableOf}
 use Rattle.lines.specs.declared.Listed.{Listed}
 use Rattle.lines.specs.declared.Listed.the-variants.{Text, Refused}
 use Rattle.lines.specs.declared.Lines.{Lines}
-use Rattle.lines.specs.Shown.{Rule, shown, shownCount}
+use Rattle.lines.specs.Shown.{Rule, Shows, shown, shownCount}
 
 -- ---- the words: limit, keys, shown, refused; put, tomb
 
@@ -61,6 +61,11 @@ lineFor key (some r) = lineOf key r
 unfoldable pub linesOf : Rule → ℕ → List Entry → List ℕ
 linesOf rule limit [] = []
 linesOf rule limit (e ∷ es) = lineFor (e .key) (shown rule limit e) ++ linesOf rule limit es
+
+-- the same lines, of what is shown
+unfoldable pub textOfShown : List Shows → List ℕ
+textOfShown [] = []
+textOfShown (s ∷ ss) = lineOf (s .key) (s .version) ++ textOfShown ss
 
 -- header: limit, keys in the body, lines that follow
 unfoldable pub headerOf : (limit keys count : ℕ) → List ℕ
@@ -125,6 +130,12 @@ listedValues (Refused r) = []
 pub record Lists (text before : List ℕ) (r : Listed) (after : List ℕ) : Type 0 where
   pub answer : r ≡ listedOf text before
   pub buffer : after ≡ bufferOf text before
+
+-- what `listing` promises for every input: its answer, every byte of its buffer, and that 131,072 bytes always suffice
+pub record Listing (rule : Rule) (input before : List ℕ) (r : Listed) (after : List ℕ) : Type 0 where
+  pub answer : r ≡ listedOf (textOf rule input) before
+  pub buffer : after ≡ bufferOf (textOf rule input) before
+  pub room : length (textOf rule input) ≤ 131072
 
 -- what a writer of lines leaves: the text from `at` on, and how many lines it has
 pub record Lined (text : List ℕ) (count : ℕ) (before : List ℕ) (at : ℕ) (after : List ℕ) (l : Lines) : Type 0 where

@@ -5,14 +5,12 @@ use records::Record;
 use records::Within;
 use words::field;
 ghost use mathlib.Core.Path.{_≡_};
-ghost use Prim.Native.Nat.{ℕ};
 ghost use Rattle.text.specs.Written.{Ends, Written};
 ghost use Rattle.records.specs.Places.{entryAt};
 ghost use Rattle.records.specs.Within.{foundOf};
-ghost use Rattle.point.specs.Layout.{keysIn};
 ghost use Rattle.point.specs.Table.{tableOf};
 ghost use Rattle.lines.specs.Shown.{newestTombstone, shown, shownOne, shownCount};
-ghost use Rattle.lines.specs.Listing.{kindWord, recordText, lineOf, lineFor, linesOf, headerOf, tableText, refusedText, listingRefusal, textOf, Lists, Lined};
+ghost use Rattle.lines.specs.Listing.{kindWord, recordText, lineOf, lineFor, linesOf, headerOf, tableText, refusedText, listingRefusal, Lists, Listing, Lined};
 ghost use Rattle.lines.specs.Needs.{Stands, Whole};
 ghost use Rattle.lines.specs.Found.{tombstoneFound};
 
@@ -234,7 +232,7 @@ fn refusal_of(input: &[u8]) -> u8
 
 // Lists an input: u64 limit, u64 data length, body.
 pub fn listing(input: &[u8], out: &mut [u8]) -> Listed
-    ensures { λ r. ⌜ Lists (textOf newestTombstone (now (input .entry))) (now (out .entry)) r (now (out .exit)) ⌝ }
+    ensures { λ r. ⌜ Listing newestTombstone (now (input .entry)) (now (out .entry)) r (now (out .exit)) ⌝ }
 {
     let refusal = refusal_of(input);
     if refusal != 0 {

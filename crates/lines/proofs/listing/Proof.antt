@@ -1,7 +1,7 @@
 -- `listing` lists the refusal of the input, or its body. Assumes nothing.
 use native.Mathlib.Omega.{arith}
 use mathlib.Core.Path.{_≡_, refl, sym, ap, _∙_}
-use Rattle.lines.proofs.InputLaws.{taken, text-refused, text-listed, taken-whole, taken-ends}
+use Rattle.lines.proofs.InputLaws.{taken, taken-whole, taken-ends, refused-listing, table-listing}
 use borrow.Author.Needs.{needs}
 use Rattle.lines.proofs.listing.Statement.{statement}
 use Rattle.lines.proofs.listing.Tie as tie
@@ -16,7 +16,7 @@ same-length : tie.Need-same-length
 same-length c = c .before .before .list-refusal .kept .0
 
 returns : tie.Need-returns
-returns c = rw (text-refused _ _ _ (c .before .before .before .before .before .refusal-of .ensures) (c .before .before .before .before .if1 .taken)) (c .before .before .list-refusal .ensures)
+returns c = refused-listing _ (omega (arith, c .before .before .before .before .before .refusal-of .ok)) (c .before .before .before .before .before .refusal-of .ensures) (c .before .before .before .before .if1 .taken) (c .before .before .list-refusal .ensures)
 
 sub-list-table : tie.Need-sub-list-table
 sub-list-table c = omega (arith, taken _ (sym (c .before .before .refusal-of .ensures) ∙ c .before .if1 .left) .long)
@@ -37,7 +37,7 @@ same-length-2 : tie.Need-same-length-2
 same-length-2 c = c .before .before .list-table .kept .0
 
 returns-2 : tie.Need-returns-2
-returns-2 c = rw (text-listed _ _ (sym (c .before .before .before .before .before .before .before .refusal-of .ensures) ∙ c .before .before .before .before .before .before .if1 .left) _ (c .before .before .before .u64-at .ensures)) (c .before .before .list-table .ensures)
+returns-2 c = table-listing _ (λ i. c .before .before .before .before .before .before .before .before .before .shared-slice-known .given i .fits) (sym (c .before .before .before .before .before .before .before .refusal-of .ensures) ∙ c .before .before .before .before .before .before .if1 .left) (c .before .before .before .u64-at .ensures) (c .before .before .list-table .ensures)
 
 pub listing-spec : {M : Type 1} → statement M
 listing-spec =
