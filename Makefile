@@ -1,4 +1,39 @@
 # make test is the gate; make run shows the main program on a stored example.
-.PHONY: test
+# make compare runs the given Rust beside the Rattle code, make bench times both: they need cargo, and the given Rust at DOCS_SRC.
+DOCS_SRC ?= ../shared/docs/src
+CASES ?= 100000
+SEED ?= 1
+CALL ?=
+
+ORACLE = sh compare/oracle/make-oracle.sh $(DOCS_SRC) target/oracle
+CARGO = cargo build --quiet --offline --locked --manifest-path compare/Cargo.toml --target-dir target/compare
+# Runs a command quietly; its output is shown where it fails.
+QUIET = mkdir -p target && quiet() { "$$@" > target/quiet.log 2>&1 || { cat target/quiet.log; exit 1; }; } && quiet
+
+.PHONY: test run compare bench splits
 test:
+	@awk '{ sub(/#.*/, ""); i = index($$0, ":") } i && $$1 != "mixing:" && (substr($$0, i + 1) " ") ~ /[ \t]mixrule[ \t]/ { print "crates.txt: only mixing may list mixrule: " $$0; bad = 1 } END { exit bad }' crates.txt
 	@rt fmt --check && rt ci
+
+run:
+	@$(QUIET) rt check mixing_vectors
+	@target/bin/mixing_vectors < crates/mixing_vectors/stdin
+
+compare:
+	@$(QUIET) rt staticlib kiban_c
+	@$(ORACLE)
+	@$(CARGO) --profile compare
+	@target/compare/compare/compare compare $(SEED) $(CASES) $(CALL)
+
+bench:
+	@$(QUIET) rt staticlib kiban_c
+	@$(ORACLE)
+	@$(CARGO) --release
+	@target/compare/release/compare bench $(CALL)
+
+# Writes the stored vectors of each program anew.
+splits:
+	@$(QUIET) rt staticlib kiban_c
+	@$(ORACLE)
+	@$(CARGO) --profile compare
+	@target/compare/compare/compare splits

@@ -1,0 +1,50 @@
+//! The calls that are compared: one file each, one line of `ALL` each.
+mod hash;
+mod mix;
+
+use crate::table::Line;
+use oracle::Rng;
+use std::fmt::Debug;
+
+/// One call: cases from a seeded generator, run on both sides.
+pub trait Call {
+    /// What goes in, lent bytes and lengths included.
+    type Case: Debug;
+    /// What comes out: the answer and every lent byte afterwards.
+    type Answer: Debug + PartialEq;
+    const NAME: &'static str;
+    /// One in so many of CASES: more than 1 for a call that takes long.
+    const ONE_IN: u64 = 1;
+    /// The cases that are always run, before those drawn.
+    fn fixed() -> Vec<Self::Case>;
+    fn draw(r: &mut Rng) -> Self::Case;
+    fn ours(case: &Self::Case) -> Self::Answer;
+    fn theirs(case: &Self::Case) -> Self::Answer;
+}
+
+pub struct Entry {
+    pub name: &'static str,
+    pub run: fn(seed: u64, cases: u64) -> Line,
+}
+const fn entry<C: Call>() -> Entry {
+    Entry { name: C::NAME, run: run::<C> }
+}
+
+/// Every call, in the order of the boundary's table.
+pub const ALL: &[Entry] = &[entry::<mix::Mix>(), entry::<hash::Hash>()];
+
+/// A call's own generator, so that a new call moves no other's cases.
+fn generator(seed: u64, name: &str) -> Rng {
+    Rng(name.bytes().fold(seed, |a, b| oracle::paper::mix(a ^ b as u64)))
+}
+
+fn run<C: Call>(seed: u64, cases: u64) -> Line {
+    Line::timed(C::NAME, |line| {
+        let mut r = generator(seed, C::NAME);
+        let fixed = C::fixed().into_iter();
+        for case in fixed.chain((0..cases.div_ceil(C::ONE_IN)).map(|_| C::draw(&mut r))) {
+            let (ours, theirs) = (C::ours(&case), C::theirs(&case));
+            line.count(ours == theirs, || format!("{case:?}: ours {ours:?}, the Rust {theirs:?}"));
+        }
+    })
+}

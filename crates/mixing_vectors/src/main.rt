@@ -1,0 +1,106 @@
+// Replays the stored vectors of mixing: ops 01 mix, 02 hash and fingerprint, 03 bucket and position.
+use vectors::Count;
+use vectors::Cursor;
+use vectors::File;
+use vectors::Next;
+
+// The counts of each op, and of what is none of them or no whole case.
+struct Tally {
+    mix: Count,
+    hash: Count,
+    places: Count,
+    other: Count,
+}
+
+// 01: u64 h -> u64.
+fn mix_agrees(p: &[u8]) -> bool {
+    if p.len() != 16 {
+        return false;
+    }
+    mixing::mix(vectors::u64_in(p, 0)) == vectors::u64_in(p, 8)
+}
+
+// 02: u64 seed, bytes key -> u64 hash, u16 fingerprint.
+fn hash_agrees(p: &[u8]) -> bool {
+    let h = mixing::hash(vectors::bytes_in(p, 8), vectors::u64_in(p, 0));
+    let end = vectors::bytes_end(p, 8);
+    if p.len() - end != 10 {
+        return false;
+    }
+    if h != vectors::u64_in(p, end) {
+        return false;
+    }
+    mixing::fingerprint(h) == vectors::u16_in(p, end + 8)
+}
+
+// 03: u64 h, u32 pilot, u32 n, u32 b -> u32 bucket, u32 position.
+fn places_agree(p: &[u8]) -> bool {
+    if p.len() != 28 {
+        return false;
+    }
+    let h = vectors::u64_in(p, 0);
+    let n = vectors::u32_in(p, 12) as usize;
+    let b = vectors::u32_in(p, 16) as usize;
+    if mixing::bucket(h, b) != vectors::u32_in(p, 20) as usize {
+        return false;
+    }
+    mixing::position(h, vectors::u32_in(p, 8), n) == vectors::u32_in(p, 24) as usize
+}
+
+impl Tally {
+    fn new() -> Self {
+        Tally {
+            mix: Count::new(),
+            hash: Count::new(),
+            places: Count::new(),
+            other: Count::new(),
+        }
+    }
+
+    // Replays one case.
+    fn replayed(mut self, op: u8, p: &[u8]) -> Tally {
+        if op == 1 {
+            self.mix = self.mix.counted(mix_agrees(p));
+        } else if op == 2 {
+            self.hash = self.hash.counted(hash_agrees(p));
+        } else if op == 3 {
+            self.places = self.places.counted(places_agree(p));
+        } else {
+            self.other = self.other.counted(false);
+        }
+        self
+    }
+}
+
+// Replays a file to its end; what is no whole case counts as one that differs.
+fn replay(file: &[u8]) -> Tally {
+    let mut tally = Tally::new();
+    let File::Cases(first) = Cursor::open(file) else {
+        return tally.replayed(0, file);
+    };
+    let mut cursor = first;
+    loop {
+        match cursor.next(file) {
+            Next::Case { op, place, next } => {
+                tally = tally.replayed(op, vectors::bytes_in(file, place));
+                cursor = next;
+            }
+            Next::End => {
+                return tally;
+            }
+            Next::Damaged => {
+                return tally.replayed(0, file);
+            }
+        }
+    }
+}
+
+fn main() {
+    let mut buffer = vectors::buffer();
+    let n = io::read_full(0, &mut buffer);
+    let tally = replay(&buffer[..n]);
+    vectors::report(b"mix", tally.mix);
+    vectors::report(b"hash", tally.hash);
+    vectors::report(b"places", tally.places);
+    vectors::report(b"other", tally.other);
+}

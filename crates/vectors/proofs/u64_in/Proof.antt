@@ -1,0 +1,22 @@
+-- `u64_in` answers the field of 8 bytes, 0 where it is not all there. Assumes nothing.
+use mathlib.Core.Path.{_∙_}
+use native.Mathlib.Omega.{arith}
+use borrow.Author.Needs.{needs}
+use Rattle.vectors.proofs.FormatLaws.{field-in, field-out}
+use Rattle.vectors.proofs.u64_in.Statement.{statement}
+use Rattle.vectors.proofs.u64_in.Tie as tie
+
+room-requires : tie.Need-room-requires
+room-requires c κs = search needs
+
+u64-at-requires : tie.Need-u64-at-requires
+u64-at-requires c κs = search needs
+
+returns : tie.Need-returns
+returns c = let s = c .before .before .before .before .args in c .u64-at .ensures ∙ field-in 8 (s .raw .now) (s .at) (omega arith) (omega arith)
+
+returns-2 : tie.Need-returns-2
+returns-2 c = let s = c .before .before .before .args in field-out 8 (s .raw .now) (s .at) (omega arith)
+
+pub u64-in-spec : {M : Type 1} → statement M
+u64-in-spec = tie.close (tie.spec room-requires u64-at-requires returns returns-2)
