@@ -3,9 +3,11 @@ use Prim.Native.Nat.{ℕ, _+_, _<_, _≤_}
 use native.Mathlib.Nat.{zero-add}
 use native.Mathlib.Omega.{arith}
 use mathlib.Core.Path.{_≡_, refl, sym, ap, _∙_}
+use mathlib.Core.Bool.{Bool, true, false, cond}
 use mathlib.Core.List.{List, [], _∷_, _++_}
 use lib.ListN.{length, length-append}
-use borrow.Author.Tests.{le-leb, lt-leb}
+use lib.Dec.{leb}
+use borrow.Author.Tests.{le-leb, lt-leb, leb-true}
 use Rattle.words.proofs.Laws.{splice-sets}
 use Rattle.text.specs.Text.{decimal, field, named}
 use Rattle.text.specs.Written.{Ends, Written}
@@ -63,3 +65,12 @@ module _ {text before none rest : List ℕ} {size : ℕ} (measured : Written non
         answer = rw g (ap Text (measured .place ∙ zero-add (length text)));
         buffer = rw g (w .buffer ∙ splice-sets before 0 text (omega (arith, measured .place)));
       }
+
+-- a text that is listed lies in the buffer
+pub listed-fits : (text before : List ℕ) (n : ℕ) → Text n ≡ listedOf text before → n ≤ length before
+unfolding listedOf
+listed-fits text before n e = go (leb (length text) (length before)) refl e
+  where
+    go : (b : Bool) → leb (length text) (length before) ≡ b → Text n ≡ cond b (Text (length text)) (Refused 6) → n ≤ length before
+    go true q f = let d : n ≡ length text = cc in let l = leb-true (length text) (length before) q in omega arith
+    go false q f = absurd (let z : _≡_ {A = ℕ} 0 1 = cc in omega arith)

@@ -1,47 +1,35 @@
+-- `put_kind` writes the word of the kind, by its match. Assumes nothing.
 use borrow.Author.Needs.{needs}
 use Rattle.lines.proofs.put_kind.Statement.{statement}
 use Rattle.lines.proofs.put_kind.Tie as tie
-use Rattle.lines.proofs.put_kind.Reads as reads
-use Rattle.lines.proofs.put_kind.Lts as lts
-use Rattle.text.proofs.put_word.Reads as put-word-reads
 
--- src/lib.rt:53:37
 enum-told : tie.Need-enum-told
 enum-told c = search needs
 
--- src/lib.rt:53:46
 slice-aggregate-put-word : tie.Need-slice-aggregate-put-word
 slice-aggregate-put-word c = search needs
 
--- src/lib.rt:53:22
 put-word-requires : tie.Need-put-word-requires
 put-word-requires c κs = rw (c .before .before .enum-told .given .1) at (c .before .before .before .before .before .pre)
 
--- src/lib.rt:54:43
 enum-told-2 : tie.Need-enum-told-2
 enum-told-2 c = search needs
 
--- src/lib.rt:54:52
 slice-aggregate-put-word-2 : tie.Need-slice-aggregate-put-word-2
 slice-aggregate-put-word-2 c = search needs
 
--- src/lib.rt:54:28
 put-word-requires-2 : tie.Need-put-word-requires-2
 put-word-requires-2 c κs = rw (c .before .before .enum-told2 .given .1) at (c .before .before .before .before .before .pre)
 
--- src/lib.rt:48:1
 same-length : tie.Need-same-length
 same-length c = search needs
 
--- src/lib.rt:48:1
 returns : tie.Need-returns
 returns c = rw (c .before .before .before .before .before .enum-told .given .1) (c .before .before .put-word .ensures)
 
--- src/lib.rt:48:1
 same-length-2 : tie.Need-same-length-2
 same-length-2 c = search needs
 
--- src/lib.rt:48:1
 returns-2 : tie.Need-returns-2
 returns-2 c = rw (c .before .before .before .before .before .enum-told2 .given .1) (c .before .before .put-word2 .ensures)
 

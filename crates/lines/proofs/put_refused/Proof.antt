@@ -1,32 +1,24 @@
+-- `put_refused` writes its pieces one after the other. Assumes nothing.
 use Rattle.text.proofs.WrittenLaws.{ends-first, ends-second, written-then}
 use Rattle.lines.specs.Listing.{refusedText}
 use borrow.Author.Needs.{needs}
 use Rattle.lines.proofs.put_refused.Statement.{statement}
 use Rattle.lines.proofs.put_refused.Tie as tie
-use Rattle.lines.proofs.put_refused.Reads as reads
-use Rattle.lines.proofs.put_refused.Lts as lts
-use Rattle.text.proofs.put_byte.Reads as put-byte-reads
-use Rattle.text.proofs.put_named.Reads as put-named-reads
 
--- src/lib.rt:164:41
 slice-aggregate-put-named : tie.Need-slice-aggregate-put-named
 slice-aggregate-put-named c = search needs
 
--- src/lib.rt:164:9
 put-named-requires : tie.Need-put-named-requires
 unfolding refusedText
 put-named-requires c κs = ends-first _ (c .before .before .before .pre)
 
--- src/lib.rt:165:5
 put-byte-requires : tie.Need-put-byte-requires
 unfolding refusedText
 put-byte-requires c κs = ends-second (c .before .before .before .put-named .ensures) (c .before .before .before .before .before .before .before .pre)
 
--- src/lib.rt:160:1
 same-length : tie.Need-same-length
 same-length c = search needs
 
--- src/lib.rt:160:1
 returns : tie.Need-returns
 unfolding refusedText
 returns c = written-then (c .before .before .before .before .before .before .put-named .ensures) (c .before .before .put-byte .ensures)
