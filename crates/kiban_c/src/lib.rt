@@ -2,6 +2,9 @@
 ghost use mathlib.Core.Path.{_≡_};
 ghost use Rattle.mixing.specs.Mixing.{mixOf, hashOf};
 
+pub mod listing;
+pub mod reading;
+
 // h, mixed.
 #[no_mangle]
 pub extern "C" fn kiban_mix(h: u64) -> u64

@@ -2,19 +2,12 @@
 use Prim.Native.Nat.{ℕ, zero, suc, _<_}
 use native.Mathlib.Nat.{not-suc-le-zero}
 use native.Mathlib.Omega.{arith}
-use mathlib.Core.Path.{_≡_, refl, sym, _∙_}
-use mathlib.Core.Bool.{Bool, true, false, cond}
-use mathlib.Core.Logic.{_⊎_, inl, inr, ⊎-elim}
+use mathlib.Core.Path.{_≡_, sym, _∙_}
+use mathlib.Core.Bool.{cond}
+use mathlib.Core.Logic.{_⊎_, ⊎-elim}
 use lib.Dec.{eqb}
-use borrow.Author.Tests.{eqb-true, eqb-false, eq-eqb, ne-eqb}
-
--- two numbers are equal or not
-pub equal-or-not : (a b : ℕ) → (a ≡ b) ⊎ (a ≡ b → ⊥)
-equal-or-not a b = go (eqb a b) refl
-  where
-    go : (t : Bool) → eqb a b ≡ t → (a ≡ b) ⊎ (a ≡ b → ⊥)
-    go true e = inl (eqb-true a b e)
-    go false e = inr (eqb-false a b e)
+use borrow.Author.Tests.{eq-eqb, ne-eqb}
+use Rattle.laws.specs.Cases.{eq-or-ne}
 
 -- f takes the indices below n to numbers below n, no two to the same
 pub record Into (n : ℕ) (f : ℕ → ℕ) : Type 0 where
@@ -52,7 +45,7 @@ module _ (m : ℕ) (f : ℕ → ℕ) (h : Into (suc m) f) where
           ⊎-elim
           (λ (e : f i ≡ m). let q = swap-hit m (f m) (f i) e in let b = h .below m (omega arith) in let n : f m ≡ m → ⊥ = λ z. not-last i l (e ∙ sym z) in rw q (omega arith))
           (λ (n : f i ≡ m → ⊥). let b = h .below i (omega arith) in rw (swap-miss m (f m) (f i) n) (omega arith))
-          (equal-or-not (f i) m)
+          (eq-or-ne (f i) m)
 
       apart : (i j : ℕ) → i < m → j < m → swap m (f m) (f i) ≡ swap m (f m) (f j) → i ≡ j
       apart i j li lj e =
@@ -60,12 +53,12 @@ module _ (m : ℕ) (f : ℕ → ℕ) (h : Into (suc m) f) where
           (λ (a : f i ≡ m).
           ⊎-elim (λ (b : f j ≡ m). h .apart i j (omega arith) (omega arith) (a ∙ sym b))
           (λ (b : f j ≡ m → ⊥). absurd (not-last j lj (sym (swap-miss m (f m) (f j) b) ∙ sym e ∙ swap-hit m (f m) (f i) a)))
-          (equal-or-not (f j) m))
+          (eq-or-ne (f j) m))
           (λ (a : f i ≡ m → ⊥).
           ⊎-elim (λ (b : f j ≡ m). absurd (not-last i li (sym (swap-miss m (f m) (f i) a) ∙ e ∙ swap-hit m (f m) (f j) b)))
           (λ (b : f j ≡ m → ⊥). h .apart i j (omega arith) (omega arith) (sym (swap-miss m (f m) (f i) a) ∙ e ∙ swap-miss m (f m) (f j) b))
-          (equal-or-not (f j) m))
-          (equal-or-not (f i) m)
+          (eq-or-ne (f j) m))
+          (eq-or-ne (f i) m)
 
   -- from a hit of the swapped numbers to one of the numbers
   back : (s : ℕ) → (s ≡ f m → ⊥) → Hit m (λ i. swap m (f m) (f i)) (swap m (f m) s) → Hit (suc m) f s
@@ -80,12 +73,12 @@ module _ (m : ℕ) (f : ℕ → ℕ) (h : Into (suc m) f) where
             (λ (a : f i ≡ m).
             ⊎-elim (λ (b : s ≡ m). a ∙ sym b)
             (λ (b : s ≡ m → ⊥). absurd (n (sym (swap-miss m (f m) s b) ∙ sym (t .is) ∙ swap-hit m (f m) (f i) a)))
-            (equal-or-not s m))
+            (eq-or-ne s m))
             (λ (a : f i ≡ m → ⊥).
             ⊎-elim (λ (b : s ≡ m). absurd (not-last i l (sym (swap-miss m (f m) (f i) a) ∙ t .is ∙ swap-hit m (f m) s b)))
             (λ (b : s ≡ m → ⊥). sym (swap-miss m (f m) (f i) a) ∙ t .is ∙ swap-miss m (f m) s b)
-            (equal-or-not s m))
-            (equal-or-not (f i) m);
+            (eq-or-ne s m))
+            (eq-or-ne (f i) m);
       }
 
   swap-low : (s : ℕ) → s < suc m → (s ≡ f m → ⊥) → swap m (f m) s < m
@@ -93,7 +86,7 @@ module _ (m : ℕ) (f : ℕ → ℕ) (h : Into (suc m) f) where
       ⊎-elim
       (λ (e : s ≡ m). let b = h .below m (omega arith) in let k : f m ≡ m → ⊥ = λ z. n (e ∙ sym z) in rw (swap-hit m (f m) s e) (omega arith))
       (λ (e : s ≡ m → ⊥). rw (swap-miss m (f m) s e) (omega arith))
-      (equal-or-not s m)
+      (eq-or-ne s m)
 
 -- the pigeonhole: every number below n is hit
 pub onto : (n : ℕ) (f : ℕ → ℕ) → Into n f → (s : ℕ) → s < n → Hit n f s
@@ -101,4 +94,4 @@ onto zero f h s l = absurd (not-suc-le-zero l)
 onto (suc m) f h s l =
     ⊎-elim (λ (e : s ≡ f m). record { index = m; low = omega arith; is = sym e })
     (λ (n : s ≡ f m → ⊥). back m f h s n (onto m (λ i. swap m (f m) (f i)) (swapped m f h) (swap m (f m) s) (swap-low m f h s l n)))
-    (equal-or-not s (f m))
+    (eq-or-ne s (f m))

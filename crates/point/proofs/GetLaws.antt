@@ -7,7 +7,7 @@ use mathlib.Core.Path.{_≡_, refl, sym, ap, _∙_}
 use mathlib.Core.List.{List, []}
 use mathlib.Core.Bool.{Bool, true, false, cond}
 use lib.ListN.{length, take, drop}
-use lib.Dec.{ltb, leb, eqb}
+use lib.Dec.{ltb}
 use borrow.Author.Tests.{ltb-false, lt-ltb, le-ltb, le-leb, lt-leb, eq-eqb, ne-eqb}
 use Rattle.words.specs.Field.{le}
 use Rattle.words.proofs.Laws.{AllBytes, le-lt}
@@ -20,9 +20,10 @@ use Rattle.records.specs.declared.Record.{Record}
 use Rattle.records.specs.declared.Within.{Within}
 use Rattle.records.specs.declared.Within.the-variants as within
 use Rattle.records.specs.Model.{limitOf}
-use Rattle.records.specs.Places.{keyLength, keyAt, firstVersion, versionCount, sequenceAt, kindAt, recordAt}
-use Rattle.records.specs.Rules.{badKind, pastData}
+use Rattle.records.specs.Places.{keyLength, keyAt, firstVersion, versionCount, sequenceAt}
+use Rattle.records.specs.Rules.{pastData}
 use Rattle.records.specs.Within.{firstWithin}
+use Rattle.records.proofs.CursorLaws.{key-cut}
 use Rattle.point.specs.declared.Versions.{Versions}
 use Rattle.point.specs.declared.Answer.{Answer}
 use Rattle.point.specs.declared.Answer.the-variants.{Found, Nothing, Refused}
@@ -30,7 +31,7 @@ use Rattle.point.specs.declared.Located.{Located}
 use Rattle.point.specs.declared.Located.the-variants as located
 use Rattle.point.specs.declared.Opened.{Opened}
 use Rattle.point.specs.declared.Opened.the-variants as opened
-use Rattle.point.specs.Layout.{headerRefusal, seedIn, keysIn, arenaIn, pilotOf, directPast, slotOf, slotPlace, fingerprintLow, recordOffset}
+use Rattle.point.specs.Layout.{headerRefusal, seedIn, keysIn, arenaIn, pilotOf, directPast, slotOf, slotPlace}
 use Rattle.point.specs.Get.{locateHash, locateOf, openRecordOf, openAt, openOf, firstOfAll, firstFor, answerOf, getOf, partOf, valueOf}
 
 -- ---- the slot: n keys, pilot g, slot s, fingerprint f, u the 16 bits read, arena start a, offset o
@@ -69,11 +70,6 @@ module _ (body key : List ℕ) (r : ℕ) (isr : r ≡ headerRefusal body) where
   locate-on e = rw (← isr, eq-eqb r 0 e)
 
 -- ---- the record
-
--- a key, as the code cuts it out
-pub key-cut : (body : List ℕ) (p kl : ℕ) → kl ≡ keyLength body p → keyAt body p ≡ take (p + 8 + kl - (p + 8)) (drop (p + 8) body)
-unfolding keyAt
-key-cut body p kl e = rw (← e, add-sub-cancel-left (p + 8) kl)
 
 module _ (body key : List ℕ) (p : ℕ) where
   pub record-short : length body < p + 8 → openRecordOf body p key ≡ opened.Damaged

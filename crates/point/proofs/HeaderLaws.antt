@@ -2,7 +2,7 @@
 use Prim.Native.Nat.{ℕ, suc, _+_, _-_, _*_, _/_, _<_, _≤_}
 use native.Mathlib.Nat.{suc-ne-zero}
 use native.Mathlib.Omega.{arith}
-use mathlib.Core.Path.{_≡_, refl, sym, ap, _∙_}
+use mathlib.Core.Path.{_≡_, refl}
 use mathlib.Core.List.{List}
 use mathlib.Core.Bool.{Bool, true, false, not, cond}
 use lib.ListN.{length, take}
@@ -11,7 +11,7 @@ use borrow.Author.Tests.{ltb-false, leb-true, leb-false, eqb-true, eqb-false, no
 use Rattle.laws.specs.RefusalLaws.{orElse-stop, orElse-zero}
 use Rattle.words.specs.Field.{le}
 use Rattle.words.specs.Part.{sameAs}
-use Rattle.mixing.specs.Mixing.{bucketOf, bucketOf-lt, positionOf, positionOf-lt}
+use Rattle.mixing.specs.Mixing.{bucketOf, positionOf, positionOf-lt}
 use Rattle.point.specs.Layout.{magic, keysIn, bucketsIn, arenaIn, magicRefusal, dimensionRefusal, headerRefusal, pilotOf, directPast, slotNumber, slotOf, slotPlace}
 
 -- a test that refuses, and did not

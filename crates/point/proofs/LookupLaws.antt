@@ -11,7 +11,7 @@ use mathlib.Core.Option.{Option, none, some}
 use lib.Dec.{leb}
 use borrow.Author.Tests.{leb-true, leb-false}
 use Rattle.laws.specs.Each.{Each}
-use Rattle.laws.specs.Each.Each.{each-none, each-more}
+use Rattle.laws.specs.Each.Each.{each-more}
 use Rattle.words.specs.declared.part.Order.the-variants.{Less, Equal}
 use Rattle.words.specs.Part.{orderOf, sameAs}
 use Rattle.words.proofs.Ordered.{same-equal, order-self, order-trans}
@@ -19,8 +19,8 @@ use Rattle.records.specs.declared.DataLength.{DataLength}
 use Rattle.records.specs.declared.Record.{Record}
 use Rattle.records.specs.declared.Limit.{Limit}
 use Rattle.records.specs.Model.{Entry, within, recordsOf, better, greatest, lookup, Falls, Rises}
-use Rattle.records.specs.Model.Falls.{falls-none, falls-one, falls-more}
-use Rattle.records.specs.Model.Rises.{rises-none, rises-one, rises-more}
+use Rattle.records.specs.Model.Falls.{falls-none, falls-more}
+use Rattle.records.specs.Model.Rises.{rises-none, rises-more}
 use Rattle.records.specs.Tables.{EntryRules, TableRules}
 use Rattle.point.specs.Lookup.{Newest, NoneWithin}
 

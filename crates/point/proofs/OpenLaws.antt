@@ -1,32 +1,33 @@
 -- On an accepted body, the opening of a key finds its versions, or nothing where it is no key of the body; and the records of a key in the
 -- body's table. Assumes nothing.
-use Prim.Native.Nat.{ℕ, zero, suc, _+_, _-_, _*_, _^_, _<_, _≤_}
+use Prim.Native.Nat.{ℕ, zero, suc, _+_, _-_, _<_, _≤_}
 use native.Mathlib.Nat.{not-suc-le-zero}
 use native.Mathlib.Omega.{arith}
 use mathlib.Core.Path.{_≡_, refl, sym, ap, _∙_}
-use mathlib.Core.List.{List, [], _∷_, append-nil}
+use mathlib.Core.List.{List, [], append-nil}
 use mathlib.Core.Bool.{Bool, true, false}
 use mathlib.Core.Logic.{_⊎_, inl, inr, ⊎-elim}
 use lib.ListN.{length}
 use borrow.Author.Tests.{leb-false}
-use Rattle.laws.specs.Pigeonhole.{equal-or-not, Hit}
-use Rattle.words.specs.Field.{le}
+use Rattle.laws.specs.Cases.{eq-or-ne}
+use Rattle.laws.specs.Pigeonhole.{Hit}
 use Rattle.words.specs.Part.{sameAs}
 use Rattle.words.proofs.Laws.{AllBytes, le-lt, le-join}
 use Rattle.words.proofs.Ordered.{same-equal, same-self}
 use Rattle.mixing.specs.Mixing.{hashOf, fingerprintOf, fingerprintOf-lt}
 use Rattle.records.specs.Model.{recordsOf}
+use Rattle.records.proofs.CursorLaws.{key-cut}
 use Rattle.records.specs.Places.{keyAt, firstVersion, versionCount, nextEntry, versionsFrom, entryAt, entriesFrom, entryPlace}
 use Rattle.point.specs.declared.Validated.the-variants.{Accepted}
 use Rattle.point.specs.declared.Versions.{Versions}
 use Rattle.point.specs.declared.Located.the-variants as located
 use Rattle.point.specs.declared.Opened.the-variants as opened
-use Rattle.point.specs.Layout.{headerRefusal, seedIn, keysIn, arenaIn, pilotOf, slotPlace, recordOffset, fingerprintLow, fingerprintWide}
+use Rattle.point.specs.Layout.{seedIn, keysIn, arenaIn, slotPlace, recordOffset, fingerprintLow, fingerprintWide}
 use Rattle.point.specs.Validate.{validateOf}
 use Rattle.point.specs.Get.{locateOf, openRecordOf, openOf}
 use Rattle.point.specs.Table.{tableOf, keyPlace, keyOf, keySlot}
 use Rattle.point.proofs.HeaderLaws.{headed, slot-inside}
-use Rattle.point.proofs.GetLaws.{locate-on, locate-other, locate-at, key-cut, open-is, record-other, record-same}
+use Rattle.point.proofs.GetLaws.{locate-on, locate-other, locate-at, open-is, record-other, record-same}
 use Rattle.point.proofs.ValidateLaws.{passed}
 use Rattle.point.proofs.SlotLaws.{key-entered, key-belongs, hash-near, hash-slot, slots-apart, slot-hit}
 
@@ -92,7 +93,7 @@ module _ (body : List ℕ) (size : ℕ) (ok : validateOf body size ≡ Accepted)
         (λ (f : fingerprintLow body (slotPlace body (keySlot body key)) ≡ fingerprintOf (hashOf (seedIn body) key)).
         open-is body key _ (sym (located-at f)) ∙ differs body key (keyPlace body i) (k .head) (k .whole) e)
         (λ (n : fingerprintLow body (slotPlace body (keySlot body key)) ≡ fingerprintOf (hashOf (seedIn body) key) → ⊥). open-is body key _ (sym (located-nothing n)))
-        (equal-or-not (fingerprintLow body (slotPlace body (keySlot body key))) (fingerprintOf (hashOf (seedIn body) key)))
+        (eq-or-ne (fingerprintLow body (slotPlace body (keySlot body key))) (fingerprintOf (hashOf (seedIn body) key)))
 
     -- no key of the body but the owner has the key
     others : (j : ℕ) → j < keysIn body → (j ≡ i → ⊥) → sameAs (keyOf body j) key ≡ false
@@ -158,7 +159,7 @@ module _ (body : List ℕ) (size : ℕ) (ok : validateOf body size ≡ Accepted)
     where
       none : (i : ℕ) → i < keysIn body → sameAs (keyOf body i) key ≡ false
       none i l =
-          ⊎-elim (λ (z : i ≡ t .index). rw z e) (λ (n : i ≡ t .index → ⊥). others body size ok all key (t .index) (t .low) (t .is) i l n) (equal-or-not i (t .index))
+          ⊎-elim (λ (z : i ≡ t .index). rw z e) (λ (n : i ≡ t .index → ⊥). others body size ok all key (t .index) (t .low) (t .is) i l n) (eq-or-ne i (t .index))
 
   -- THEOREM: a key is opened exactly where it is a key of the body
   pub opening-is : Opens body key ⊎ Missing body key

@@ -1,48 +1,32 @@
 -- On an accepted body: the arena is the bytes of one table, and each slot belongs to exactly one key, since n keys stand in n slots.
 -- Assumes nothing.
 use Prim.Native.Nat.{ℕ, _+_, _-_, _<_, _≤_}
-use native.Mathlib.Nat.{eq-or-lt-of-le}
 use native.Mathlib.Omega.{arith}
 use mathlib.Core.Path.{_≡_, refl, sym, ap, _∙_}
-use mathlib.Core.List.{List, []}
-use mathlib.Core.Bool.{Bool, true, false}
-use mathlib.Core.Logic.{_⊎_, ⊎-elim}
+use mathlib.Core.List.{List}
+use mathlib.Core.Bool.{false}
 use lib.ListN.{length, drop, take, length-drop}
 use lib.Seq.{take-length}
-use lib.Dec.{leb}
-use borrow.Author.Tests.{ltb-false, leb-true, leb-false}
-use Rattle.laws.specs.Each.{Each, each-map}
-use Rattle.laws.specs.Pigeonhole.{Into, Hit, onto}
-use Rattle.words.specs.Field.{le}
+use borrow.Author.Tests.{ltb-false}
+use Rattle.laws.specs.Each.{each-map}
+use Rattle.laws.specs.Pigeonhole.{Hit, onto}
 use Rattle.words.proofs.Laws.{AllBytes}
-use Rattle.mixing.specs.Mixing.{hashOf, fingerprintOf}
 use Rattle.records.specs.declared.DataLength.the-variants.{Of}
 use Rattle.records.specs.declared.Record.{Record}
-use Rattle.records.specs.declared.Walked.{Walked}
 use Rattle.records.specs.Model.{Entry, tableBytes}
-use Rattle.records.specs.Places.{keyAt, entriesFrom, entryPlace}
-use Rattle.records.specs.Tables.{TableFits, RecordRules, EntryRules, TableRules, InData, EntryInData, TableInData}
+use Rattle.records.specs.Places.{entriesFrom, entryPlace}
+use Rattle.records.specs.Tables.{RecordRules, EntryRules, InData, EntryInData}
 use Rattle.records.specs.Walk.{walkFrom}
-use Rattle.records.proofs.PassedLaws.{Passed, EnteredAt, place-up, place-rises, entries-count, passed-at, walk-passed, walk-ends, walk-whole}
+use Rattle.records.proofs.PassedLaws.{Passed, EnteredAt, place-up, place-apart, entries-count, passed-at, walk-passed, walk-ends, walk-whole}
 use Rattle.records.proofs.ReadLaws.{passed-bytes, passed-rules}
 use Rattle.records.proofs.TableLaws.{table-fits}
 use Rattle.records.proofs.WriteLaws.{table-unique}
 use Rattle.point.specs.declared.Validated.the-variants.{Accepted}
-use Rattle.point.specs.Layout.{seedIn, keysIn, arenaIn, pilotOf, directPast, slotOf, slotPlace, recordOffset, fingerprintWide}
+use Rattle.point.specs.Layout.{keysIn, arenaIn, pilotOf, directPast, slotOf, slotPlace, recordOffset}
 use Rattle.point.specs.Validate.{slotRefusal, validateOf}
 use Rattle.point.specs.Table.{tableOf, keyPlace, keyOf, keySlot, HoldsTable, Belongs, OneBelow}
 use Rattle.point.proofs.HeaderLaws.{headed, slot-low}
 use Rattle.point.proofs.ValidateLaws.{passed, checked-near, slotted}
-
--- ---- places
-
-place-apart : (bytes : List ℕ) (p i j : ℕ) → entryPlace bytes p i ≡ entryPlace bytes p j → i ≡ j
-place-apart bytes p i j e = go (leb i j) refl
-  where
-    go : (t : Bool) → leb i j ≡ t → i ≡ j
-    go true q =
-        ⊎-elim (λ (z : i ≡ j). z) (λ (l : i < j). absurd (let z = place-rises bytes p i j l in omega arith)) (eq-or-lt-of-le (leb-true i j q))
-    go false q = absurd (let z = place-rises bytes p j i (leb-false i j q) in omega arith)
 
 -- ---- the table
 

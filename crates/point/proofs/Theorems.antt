@@ -1,6 +1,6 @@
 -- What is promised of reading: on a body that validation accepts, get is the lookup in its table and value that record's part of the data;
 -- a body with right header, pilots and slots over a table that keeps the rules is accepted; each call's result is fixed. Assumes nothing.
-use Prim.Native.Nat.{ℕ, _+_, _-_, _<_, _≤_}
+use Prim.Native.Nat.{ℕ, _+_, _-_, _<_}
 use native.Mathlib.Omega.{arith}
 use mathlib.Core.Path.{_≡_, refl, sym, ap, _∙_}
 use mathlib.Core.List.{List, [], _∷_, _++_}
@@ -9,19 +9,17 @@ use mathlib.Core.Option.{Option, none, some}
 use mathlib.Core.Logic.{_⊎_, ⊎-elim}
 use lib.ListN.{length, take, drop, take-append-drop}
 use lib.Seq.{length-take-le}
-use lib.Dec.{ltb, leb}
-use borrow.Author.Tests.{ltb-false, le-ltb}
+use lib.Dec.{leb}
 use Rattle.laws.specs.Each.{Each}
 use Rattle.laws.specs.Each.Each.{each-none, each-more}
 use Rattle.words.proofs.Laws.{AllBytes}
 use Rattle.mixing.specs.Mixing.{hashOf}
 use Rattle.records.specs.declared.DataLength.the-variants.{Of}
 use Rattle.records.specs.declared.Limit.{Limit}
-use Rattle.records.specs.declared.Limit.the-variants.{UpTo}
 use Rattle.records.specs.declared.Record.{Record}
 use Rattle.records.specs.declared.Walked.{Walked}
 use Rattle.records.specs.Model.{Entry, tableBytes, within, limitOf, recordsOf, better, greatest, lookup}
-use Rattle.records.specs.Places.{keyAt, versionsFrom, entryPlace}
+use Rattle.records.specs.Places.{versionsFrom, entryPlace}
 use Rattle.records.specs.Tables.{RecordRules, TableRules}
 use Rattle.records.specs.Walk.{walkFrom}
 use Rattle.records.specs.Within.{foundOf}
@@ -32,7 +30,7 @@ use Rattle.point.specs.declared.Validated.{Validated}
 use Rattle.point.specs.declared.Validated.the-variants.{Accepted}
 use Rattle.point.specs.declared.Answer.{Answer}
 use Rattle.point.specs.declared.Answer.the-variants.{Found, Nothing, Refused}
-use Rattle.point.specs.Layout.{headerRefusal, seedIn, keysIn, bucketsIn, arenaIn, slotOf, slotPlace}
+use Rattle.point.specs.Layout.{headerRefusal, seedIn, keysIn, bucketsIn, arenaIn}
 use Rattle.point.specs.Validate.{pilotsRefusal, slotRefusal, arenaRefusal, validateOf}
 use Rattle.point.specs.Get.{answerOf, getOf, partOf, valueOf}
 use Rattle.point.specs.Lookup.{Newest, NoneWithin}

@@ -7,7 +7,7 @@ use mathlib.Core.Path.{_≡_, refl, sym, ap, _∙_}
 use mathlib.Core.List.{List}
 use mathlib.Core.Bool.{false, not}
 use mathlib.Core.Logic.{_⊎_, ⊎-elim}
-use lib.ListN.{length, take, drop}
+use lib.ListN.{take, drop}
 use lib.Dec.{eqb}
 use borrow.Author.Tests.{eqb-true, not-false, le-leb, lt-leb, eq-eqb, ne-eqb}
 use Rattle.laws.specs.RefusalLaws.{orElse-stop, orElse-zero}
@@ -16,12 +16,12 @@ use Rattle.mixing.specs.Mixing.{hashOf, fingerprintOf, bucketOf, bucketOf-lt}
 use Rattle.records.specs.declared.DataLength.the-variants.{Of}
 use Rattle.records.specs.Places.{keyLength, keyAt, nextEntry}
 use Rattle.records.specs.Walk.{walkFrom}
+use Rattle.records.proofs.CursorLaws.{key-cut}
 use Rattle.records.proofs.RuleLaws.{Entered}
 use Rattle.point.specs.declared.Validated.the-variants.{Accepted, Refused}
 use Rattle.point.specs.Layout.{headerRefusal, seedIn, keysIn, bucketsIn, arenaIn, pilotAt, pilotOf, directPast, slotOf, slotPlace, recordOffset, fingerprintWide}
 use Rattle.point.specs.Validate.{pilotsRefusal, slotTest, slotRefusal, arenaRefusal, validationRefusal, verdict, validateOf, Checked, Stepping}
 use Rattle.point.proofs.HeaderLaws.{passes, headed}
-use Rattle.point.proofs.GetLaws.{key-cut}
 
 -- ---- 22, a pilot at a time
 

@@ -3,6 +3,7 @@ use records::DataLength;
 use records::Limit;
 use records::Record;
 use records::Within;
+use records::cursor::Head;
 use words::field;
 use words::part;
 ghost use mathlib.Core.Path.{_≡_};
@@ -95,7 +96,7 @@ fn dimension_refusal(size: u64, n: u64, b: u64, arena: u64) -> u8
     if b != (n + 2) / 3 {
         return 21;
     }
-    if arena != 32 + 4 * b + 12 * n {
+    if arena != Header::BYTES as u64 + 4 * b + Header::SLOT as u64 * n {
         return 21;
     }
     if size <= arena {
@@ -126,7 +127,7 @@ fn pilot_of(body: &[u8], h: u64) -> u32
     ensures { λ r. ⌜ r ≡ pilotOf (now (body .entry)) h ⌝ }
 {
     let i = mixing::bucket(h, field::u32_at(body, 20) as usize);
-    field::u32_at(body, 32 + 4 * i)
+    field::u32_at(body, Header::BYTES + 4 * i)
 }
 
 // Where the slot of a hash stands.
@@ -138,10 +139,10 @@ fn slot_of(body: &[u8], h: u64) -> usize
     let pilot = pilot_of(body, h);
     if Header::DIRECT <= pilot as u64 {
         let i = (pilot as u64 - Header::DIRECT) as usize;
-        return 32 + 4 * b + 12 * i;
+        return Header::BYTES + 4 * b + Header::SLOT * i;
     }
     let i = mixing::position(h, pilot, field::u32_at(body, 16) as usize);
-    32 + 4 * b + 12 * i
+    Header::BYTES + 4 * b + Header::SLOT * i
 }
 
 // The record that the slot of a hash names.
@@ -181,10 +182,10 @@ pub fn open_record(body: &[u8], place: usize, key: &[u8]) -> Opened
     if body.len() < place {
         return Opened::Damaged;
     }
-    if body.len() - place < 8 {
+    if body.len() - place < Head::BYTES {
         return Opened::Damaged;
     }
-    let from = place + 8;
+    let from = place + Head::BYTES;
     let size = field::u32_at(body, place) as usize;
     if body.len() - from < size {
         return Opened::Damaged;
@@ -218,7 +219,7 @@ fn pilots_refusal(body: &[u8]) -> u8
     let b = field::u32_at(body, 20) as usize;
     let mut i = 0;
     while i < b {
-        if Header::DIRECT + n <= field::u32_at(body, 32 + 4 * i) as u64 {
+        if Header::DIRECT + n <= field::u32_at(body, Header::BYTES + 4 * i) as u64 {
             return 22;
         }
         i += 1;
@@ -246,7 +247,7 @@ fn slot_refusal(body: &[u8], p: usize) -> u8
     requires { ⌜ Reached (now body) p ⌝ }
     ensures { λ r. ⌜ r ≡ slotRefusal (now (body .entry)) p ⌝ }
 {
-    let from = p + 8;
+    let from = p + Head::BYTES;
     let to = from + field::u32_at(body, p) as usize;
     slot_test(
         body,
@@ -268,7 +269,7 @@ fn entry_refusal(body: &[u8], data_length: u64, prev: usize, p: usize) -> u8
     if s != 0 {
         return s;
     }
-    let first = p + 8 + field::u32_at(body, p) as usize;
+    let first = p + Head::BYTES + field::u32_at(body, p) as usize;
     records::rules::versions_refusal(
         body,
         DataLength::Of(data_length),
@@ -345,7 +346,7 @@ fn answered(found: Within, data_length: u64) -> Answer
 }
 
 // The key's record up to a sequence, with data of a length.
-pub fn lookup(body: &[u8], data_length: u64, key: &[u8], most: u64) -> Answer
+pub fn get_up_to(body: &[u8], data_length: u64, key: &[u8], most: u64) -> Answer
     ensures { λ r. ⌜ r ≡ getOf (now (body .entry)) data_length (now (key .entry)) (UpTo most) ⌝ }
 {
     let o = open(body, key);
@@ -360,8 +361,8 @@ pub fn lookup(body: &[u8], data_length: u64, key: &[u8], most: u64) -> Answer
     }
 }
 
-// The greatest sequence within a limit.
-fn greatest(limit: Limit) -> u64
+// A limit as a number: none is the greatest sequence there is.
+fn limit_number(limit: Limit) -> u64
     ensures { λ r. ⌜ r ≡ limitOf limit ⌝ }
 {
     match limit {
@@ -374,7 +375,7 @@ fn greatest(limit: Limit) -> u64
 pub fn get<'b, 'd, 'k>(body: &'b [u8], data: &'d [u8], key: &'k [u8], limit: Limit) -> Answer
     ensures { λ r. ⌜ r ≡ getOf (now (body .entry)) (length (now («data» .entry))) (now (key .entry)) limit ⌝ }
 {
-    lookup(body, data.len() as u64, key, greatest(limit))
+    get_up_to(body, data.len() as u64, key, limit_number(limit))
 }
 
 // The value of what get finds, as that part of the data; or the data's first zero bytes.

@@ -1,14 +1,14 @@
 -- A table that keeps the rules has bytes that pass, behind any front and before any rest. Assumes nothing.
-use Prim.Native.Nat.{ℕ, zero, suc, _+_, _-_, _*_, _^_, _<_, _≤_}
+use Prim.Native.Nat.{ℕ, suc, _+_, _*_, _<_}
 use native.Mathlib.Omega.{arith}
-use mathlib.Core.Path.{_≡_, refl, sym, ap, _∙_}
-use mathlib.Core.List.{List, [], _∷_, _++_, append-assoc, append-nil}
-use mathlib.Core.Bool.{Bool, true, false, not, cond, _&&_, _||_}
+use mathlib.Core.Path.{_≡_, refl, ap, _∙_}
+use mathlib.Core.List.{List, [], _∷_, _++_, append-assoc}
+use mathlib.Core.Bool.{Bool, true, false, not, _||_}
 use lib.ListN.{length, length-append}
-use lib.Dec.{ltb, eqb}
+use lib.Dec.{eqb}
 use borrow.Author.Tests.{eq-eqb, lt-ltb}
-use Rattle.laws.specs.Each.{Each, each-map}
-use Rattle.laws.specs.Each.Each.{each-none, each-more}
+use Rattle.laws.specs.Each.{Each}
+use Rattle.laws.specs.Each.Each.{each-more}
 use Rattle.words.specs.declared.part.Order.the-variants.{Less}
 use Rattle.words.specs.Field.{le, bytesOf}
 use Rattle.words.specs.Part.{orderOf}
@@ -18,14 +18,13 @@ use Rattle.records.specs.declared.Kind.the-variants.{Put, Tombstone}
 use Rattle.records.specs.declared.Record.{Record}
 use Rattle.records.specs.declared.DataLength.{DataLength}
 use Rattle.records.specs.Model.{Entry, kindByte, versionBytes, versionsBytes, entryBytes, tableBytes, Falls, Rises}
-use Rattle.records.specs.Model.Falls.{falls-none, falls-one, falls-more}
-use Rattle.records.specs.Model.Rises.{rises-none, rises-one, rises-more}
-use Rattle.records.specs.Places.{keyLength, versionCount, keyAt, firstVersion, nextEntry, sequenceAt, kindAt, lengthAt, offsetAt, entryPlace}
-use Rattle.records.specs.Rules.{isLess, keyRises, badKind, pastData, fullTombstone, sequenceFalls, versionsRefusal, entryVersionsRefusal}
-use Rattle.records.specs.Tables.{RecordFits, EntryFits, RecordRules, EntryRules, TableRules}
-use Rattle.records.specs.Walk.{walkFrom}
+use Rattle.records.specs.Model.Falls.{falls-more}
+use Rattle.records.specs.Model.Rises.{rises-more}
+use Rattle.records.specs.Places.{keyLength, versionCount, keyAt, nextEntry, sequenceAt, kindAt, lengthAt, offsetAt, entryPlace}
+use Rattle.records.specs.Rules.{keyRises, badKind, fullTombstone, sequenceFalls, versionsRefusal}
+use Rattle.records.specs.Tables.{RecordRules, EntryRules, TableRules}
 use Rattle.records.proofs.KindLaws.{kind-good}
-use Rattle.records.proofs.RuleLaws.{Keyed, Versioned, version-passes, Entered, key-first, sequence-first}
+use Rattle.records.proofs.RuleLaws.{Versioned, version-passes, Entered, key-first, sequence-first}
 use Rattle.records.proofs.TableLaws.{entry-fits}
 use Rattle.records.proofs.PassedLaws.{Passed}
 use Rattle.records.proofs.PassedLaws.Passed.{passed-none, passed-more}

@@ -1,10 +1,10 @@
-pub mod RuleLaws
+pub mod CursorLaws
 pub mod KindLaws
+pub mod RuleLaws
 pub mod SearchLaws
 pub mod WalkLaws
-pub mod CursorLaws
-pub mod TableLaws
 pub mod PassedLaws
+pub mod TableLaws
 pub mod ReadLaws
 pub mod WriteLaws
 pub mod AcceptLaws

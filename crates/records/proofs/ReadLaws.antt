@@ -1,10 +1,10 @@
 -- What is read of bytes that pass: their bytes are those of the table read, its keys rise, its sequences fall, it keeps the rules. Assumes nothing.
-use Prim.Native.Nat.{ℕ, zero, suc, _+_, _-_, _*_, _^_, _<_, _≤_}
+use Prim.Native.Nat.{ℕ, zero, suc, _+_, _-_, _*_, _≤_}
 use native.Mathlib.Omega.{arith}
 use mathlib.Core.Path.{_≡_, refl, sym, ap, _∙_}
-use mathlib.Core.List.{List, [], _∷_, _++_, append-assoc}
-use mathlib.Core.Bool.{Bool, true, false, not, _&&_}
-use lib.ListN.{length, getD, take, drop, length-append, length-drop}
+use mathlib.Core.List.{List, _∷_, _++_, append-assoc}
+use mathlib.Core.Bool.{true, false}
+use lib.ListN.{length, take, drop, length-append, length-drop}
 use lib.Seq.{drop-cons, length-take-le, take-at}
 use lib.Dec.{ltb, eqb}
 use borrow.Author.Tests.{ltb-true, eqb-true, eq-eqb, not-false}
@@ -17,19 +17,17 @@ use Rattle.words.specs.Field.{le, bytesOf}
 use Rattle.words.specs.Part.{orderOf}
 use Rattle.words.proofs.Laws.{AllBytes, le-lt}
 use Rattle.words.proofs.WrittenLaws.{part-rest, read-rest}
-use Rattle.records.specs.declared.Record.{Record}
 use Rattle.records.specs.declared.DataLength.{DataLength}
-use Rattle.records.specs.Model.{Entry, kindByte, versionBytes, versionsBytes, entryBytes, tableBytes, Falls, Rises}
+use Rattle.records.specs.Model.{kindByte, versionBytes, versionsBytes, entryBytes, tableBytes, Falls, Rises}
 use Rattle.records.specs.Model.Falls.{falls-none, falls-one, falls-more}
 use Rattle.records.specs.Model.Rises.{rises-none, rises-one, rises-more}
-use Rattle.records.specs.Places.{keyLength, versionCount, keyAt, firstVersion, nextEntry, sequenceAt, kindAt, lengthAt, offsetAt, kindOf, recordAt, versionsFrom, entryAt, entriesFrom, entryPlace}
-use Rattle.records.specs.Rules.{isLess, keyRises, badKind, pastData, fullTombstone, sequenceFalls, versionRefusal, versionsRefusal}
-use Rattle.records.specs.Tables.{RecordFits, RecordRules, EntryRules, TableRules}
-use Rattle.records.specs.Walk.{walkFrom}
+use Rattle.records.specs.Places.{keyLength, versionCount, keyAt, firstVersion, nextEntry, sequenceAt, kindAt, lengthAt, kindOf, recordAt, versionsFrom, entryAt, entriesFrom, entryPlace}
+use Rattle.records.specs.Rules.{isLess, badKind, fullTombstone, versionRefusal, versionsRefusal}
+use Rattle.records.specs.Tables.{RecordRules, EntryRules, TableRules}
 use Rattle.records.proofs.KindLaws.{kind-byte, tombstone-two}
 use Rattle.records.proofs.RuleLaws.{Versioned, versioned, Entered, key-next, sequence-next}
-use Rattle.records.proofs.PassedLaws.{Passed, passed-end, walk-passed, walk-ends}
-use Rattle.records.proofs.PassedLaws.Passed.{passed-none, passed-more}
+use Rattle.records.proofs.PassedLaws.{Passed, passed-end}
+use Rattle.records.proofs.PassedLaws.Passed.{passed-more}
 
 pub versions-count : (bytes : List ℕ) (p k : ℕ) → length (versionsFrom bytes p k) ≡ k
 unfolding versionsFrom

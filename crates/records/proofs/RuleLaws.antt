@@ -1,31 +1,23 @@
 -- The laws of the rules of a key, of a version and of an entry: which number is given, and what a passed rule says, both ways. Assumes nothing.
 use Prim.Native.Nat.{ℕ, zero, suc, _+_, _-_, _*_, _<_, _≤_}
-use native.Mathlib.Nat.{not-suc-le-zero, zero-lt-suc, add-sub-cancel-left}
+use native.Mathlib.Nat.{not-suc-le-zero, zero-lt-suc}
 use native.Mathlib.Omega.{arith}
 use mathlib.Core.Path.{_≡_, refl, sym, ap, _∙_}
-use mathlib.Core.List.{List, [], _∷_}
-use mathlib.Core.Bool.{Bool, true, false, not, cond, _&&_, _||_}
-use mathlib.Core.Logic.{_⊎_, inl, inr}
+use mathlib.Core.List.{List}
+use mathlib.Core.Bool.{Bool, true, false, not, cond}
 use lib.ListN.{length, take, drop}
-use lib.Dec.{ltb, eqb}
-use borrow.Author.Tests.{ltb-true, ltb-false, eqb-true, eqb-false, not-false, lt-ltb, le-ltb, eq-eqb, ne-eqb}
-use Rattle.laws.specs.Refusals.{Cause, cause, firstOf, orElse, None, Numbered, none-given, none-only}
+use lib.Dec.{ltb}
+use borrow.Author.Tests.{ltb-true, ltb-false, eqb-false, not-false, lt-ltb, le-ltb, eq-eqb, ne-eqb}
+use Rattle.laws.specs.Refusals.{First, None, first-given, first-only, none-given, none-only}
 use Rattle.laws.specs.Refusals.None.{none-here, none-more}
 use Rattle.laws.specs.Refusals.Numbered.{numbered-none, numbered-more}
 use Rattle.laws.specs.RefusalLaws.{orElse-stop, orElse-zero}
 use Rattle.words.specs.declared.part.Order.{Order}
-use Rattle.words.specs.declared.part.Order.the-variants.{Less, Equal, Greater}
 use Rattle.words.specs.Part.{orderOf}
 use Rattle.records.specs.declared.DataLength.{DataLength}
+use Rattle.records.proofs.CursorLaws.{key-cut}
 use Rattle.records.specs.Places.{keyLength, versionCount, keyAt, firstVersion, nextEntry, sequenceAt, kindAt, lengthAt, offsetAt}
 use Rattle.records.specs.Rules.{isLess, keyRises, keyCauses, keyRefusal, badKind, pastData, fullTombstone, sequenceFalls, versionCauses, versionRefusal, versionsRefusal, entryVersionsRefusal, entryRefusal}
-
-pub eq-or-ne : (m n : ℕ) → (m ≡ n) ⊎ (m ≡ n → ⊥)
-eq-or-ne m n = go (eqb m n) refl
-  where
-    go : (t : Bool) → eqb m n ≡ t → (m ≡ n) ⊎ (m ≡ n → ⊥)
-    go true e = inl (eqb-true m n e)
-    go false e = inr (eqb-false m n e)
 
 -- two tests of one sum
 pub ltb-less : (n a b : ℕ) → a ≤ n → ltb n (a + b) ≡ ltb (n - a) b
@@ -66,6 +58,15 @@ module _ (bytes : List ℕ) (prev p : ℕ) where
         unfolding keyRefusal
         key-falls n e =
             rw (le-ltb (length bytes) (p + 8) head, le-ltb 1048576 (keyLength bytes p) small, le-ltb (length bytes) (firstVersion bytes p) whole, ne-eqb (versionCount bytes p) 0 n, e)
+
+  -- a number is given exactly where its cause is the first that holds
+  pub key-exact : (n : ℕ) → 0 < n → keyRefusal bytes prev p ≡ n → First n (keyCauses bytes prev p)
+  unfolding keyRefusal
+  key-exact n h e = first-only n (keyCauses bytes prev p) h e
+
+  pub key-given : (n : ℕ) → First n (keyCauses bytes prev p) → keyRefusal bytes prev p ≡ n
+  unfolding keyRefusal
+  key-given n f = first-given f
 
 -- what the rules of a key say of the one at p
 pub record Keyed (bytes : List ℕ) (prev p : ℕ) : Type 0 where
@@ -128,6 +129,15 @@ module _ (bytes : List ℕ) (test : DataLength) (prev p : ℕ) where
           unfolding versionRefusal
           version-falls b e f =
               rw (le-ltb (length bytes) (p + 21) fits, known, le-ltb 16777216 (lengthAt bytes p) small, ← is, ← iso, inside, e, f) (not-cond b)
+
+  -- a number is given exactly where its cause is the first that holds
+  pub version-exact : (n : ℕ) → 0 < n → versionRefusal bytes test prev p ≡ n → First n (versionCauses bytes test prev p)
+  unfolding versionRefusal
+  version-exact n h e = first-only n (versionCauses bytes test prev p) h e
+
+  pub version-given : (n : ℕ) → First n (versionCauses bytes test prev p) → versionRefusal bytes test prev p ≡ n
+  unfolding versionRefusal
+  version-given n f = first-given f
 
 -- what the rules of a version say of the one at p
 pub record Versioned (bytes : List ℕ) (test : DataLength) (prev p : ℕ) : Type 0 where
@@ -233,12 +243,11 @@ pub key-next : (bytes : List ℕ) (prev p : ℕ) → (prev ≡ p → ⊥) → ke
 unfolding keyRises
 key-next bytes prev p n = rw (ne-eqb prev p n)
 
--- two keys, as they are cut out and compared
+-- two keys that are cut out and compared
 pub key-compared : (bytes : List ℕ) (prev p m n : ℕ) (o : Order) → (prev ≡ p → ⊥) → m ≡ keyLength bytes prev → n ≡ keyLength bytes p
     → o ≡ orderOf (take (prev + 8 + m - (prev + 8)) (drop (prev + 8) bytes)) (take (p + 8 + n - (p + 8)) (drop (p + 8) bytes)) → isLess o ≡ keyRises bytes prev p
-unfolding keyAt
 key-compared bytes prev p m n o d em en eo =
-    let e : orderOf (keyAt bytes prev) (keyAt bytes p) ≡ o = rw (← em, ← en) (sym (simp add-sub-cancel-left at eo)) in
+    let e : orderOf (keyAt bytes prev) (keyAt bytes p) ≡ o = cc (eo, key-cut bytes prev m em, key-cut bytes p n en) in
     sym (key-next bytes prev p d ∙ ap isLess e)
 
 pub sequence-first : (bytes : List ℕ) (prev p : ℕ) → prev ≡ p → sequenceFalls bytes prev p ≡ true

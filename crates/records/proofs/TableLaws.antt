@@ -1,5 +1,5 @@
 -- The rules of tables: what keeps the rules fits its bytes, and the data test put on or taken off. Assumes nothing.
-use Prim.Native.Nat.{ℕ, _+_, _^_, _<_, _≤_}
+use Prim.Native.Nat.{ℕ, _+_}
 use native.Mathlib.Omega.{arith}
 use mathlib.Core.List.{List, [], _∷_}
 use mathlib.Core.Path.{refl}

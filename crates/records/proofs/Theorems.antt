@@ -1,17 +1,18 @@
 -- The walk and the tables: what a walk has passed is the bytes of exactly one table, which keeps the rules, and the bytes of a table that keeps the rules are walked whole. Assumes nothing.
-use Prim.Native.Nat.{ℕ, zero, suc, _+_, _-_, _*_, _<_, _≤_}
+use Prim.Native.Nat.{ℕ, _+_, _-_, _*_, _<_, _≤_}
 use native.Mathlib.Nat.{zero-add}
 use native.Mathlib.Omega.{arith}
 use mathlib.Core.Path.{_≡_, refl, sym, ap, _∙_}
 use mathlib.Core.List.{List, [], _∷_, _++_, append-nil}
 use mathlib.Core.Bool.{cond}
 use lib.ListN.{length, take, drop, length-append}
+use lib.Seq.{take-all}
 use lib.Dec.{eqb}
 use borrow.Author.Tests.{eq-eqb}
 use Rattle.words.proofs.Laws.{AllBytes}
 use Rattle.records.specs.declared.DataLength.{DataLength}
 use Rattle.records.specs.declared.Walked.{Walked}
-use Rattle.records.specs.Model.{Entry, entryBytes, tableBytes}
+use Rattle.records.specs.Model.{Entry, tableBytes}
 use Rattle.records.specs.Places.{entriesFrom, entryPlace}
 use Rattle.records.specs.Rules.{unslotted}
 use Rattle.records.specs.Tables.{TableFits, TableRules}
@@ -48,6 +49,13 @@ read-back slots bytes test prev p k all h =
       rules = u;
       only = λ t f q. table-unique t (entriesFrom bytes p (w .keys)) f (table-fits test (entriesFrom bytes p (w .keys)) u) (q ∙ b);
     }
+
+-- THEOREM: where a walk from the start ends with the bytes, they are the bytes of the table that is read
+pub read-whole : (slots : ℕ → ℕ) (bytes : List ℕ) (test : DataLength) (k : ℕ) → AllBytes bytes → walkFrom slots bytes test 0 0 k .end ≡ length bytes
+    → bytes ≡ tableBytes (entriesFrom bytes 0 (walkFrom slots bytes test 0 0 k .keys))
+read-whole slots bytes test k all e =
+    let r = read-back slots bytes test 0 0 k all (omega arith) in
+    sym (take-all (walkFrom slots bytes test 0 0 k .end - 0) bytes (omega arith)) ∙ r .bytes-are
 
 module _ (test : DataLength) (t : List Entry) (rules : TableRules test t) where
   -- THEOREM: a walk of as many keys passes the bytes of a table that keeps the rules, wherever they stand, where its slots pass

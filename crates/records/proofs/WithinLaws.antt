@@ -1,5 +1,5 @@
 -- On versions that pass, the first version within a limit is the record of greatest sequence within it. Assumes nothing.
-use Prim.Native.Nat.{ℕ, zero, suc, _+_, _-_, _^_, _<_, _≤_}
+use Prim.Native.Nat.{ℕ, zero, suc, _+_, _-_, _^_, _<_}
 use native.Mathlib.Omega.{arith}
 use mathlib.Core.Path.{_≡_, refl, sym, ap, _∙_}
 use mathlib.Core.List.{List, [], _∷_}
@@ -8,8 +8,6 @@ use mathlib.Core.Option.{Option, none, some}
 use lib.ListN.{length}
 use lib.Dec.{leb}
 use borrow.Author.Tests.{le-ltb, le-leb}
-use Rattle.laws.specs.Each.{Each}
-use Rattle.laws.specs.Each.Each.{each-none, each-more}
 use Rattle.laws.specs.RefusalLaws.{orElse-zero}
 use Rattle.words.proofs.Laws.{AllBytes, le-lt}
 use Rattle.records.specs.declared.Record.{Record}
@@ -17,13 +15,13 @@ use Rattle.records.specs.declared.DataLength.{DataLength}
 use Rattle.records.specs.declared.Limit.{Limit}
 use Rattle.records.specs.declared.Limit.the-variants.{None, UpTo}
 use Rattle.records.specs.declared.Within.{Within}
-use Rattle.records.specs.declared.Within.the-variants.{Found, Nothing, Damaged}
+use Rattle.records.specs.declared.Within.the-variants.{Found, Damaged}
 use Rattle.records.specs.Model.{within, limitOf, better, greatest, Falls}
-use Rattle.records.specs.Model.Falls.{falls-none, falls-one, falls-more}
-use Rattle.records.specs.Places.{sequenceAt, kindAt, recordAt, versionsFrom}
-use Rattle.records.specs.Rules.{badKind, versionRefusal, versionsRefusal}
+use Rattle.records.specs.Model.Falls.{falls-none, falls-more}
+use Rattle.records.specs.Places.{sequenceAt, recordAt, versionsFrom}
+use Rattle.records.specs.Rules.{versionRefusal, versionsRefusal}
 use Rattle.records.specs.Within.{firstWithin, foundOf}
-use Rattle.records.proofs.RuleLaws.{Versioned, versioned}
+use Rattle.records.proofs.RuleLaws.{versioned}
 use Rattle.records.proofs.ReadLaws.{versions-fall}
 
 -- ---- the limit as a number

@@ -1,18 +1,18 @@
 -- A table that is written is read again, behind any front and before any rest; so no two tables have the same bytes. Assumes nothing.
-use Prim.Native.Nat.{ℕ, zero, suc, _+_, _-_, _*_, _^_, _<_, _≤_}
+use Prim.Native.Nat.{ℕ, _+_, _*_}
 use native.Mathlib.Omega.{arith}
 use mathlib.Core.Path.{_≡_, refl, sym, ap, _∙_}
-use mathlib.Core.List.{List, [], _∷_, _++_, append-assoc, append-nil}
+use mathlib.Core.List.{List, [], _∷_, _++_, append-assoc}
 use lib.ListN.{length, getD, take, drop, length-append}
 use lib.Seq.{getD-at, drop-at, drop-append-seam, take-append-seam}
 use Rattle.laws.specs.Each.{Each}
-use Rattle.laws.specs.Each.Each.{each-none, each-more}
+use Rattle.laws.specs.Each.Each.{each-more}
 use Rattle.words.specs.Field.{le, bytesOf}
 use Rattle.words.proofs.Laws.{length-bytesOf}
 use Rattle.words.proofs.WrittenLaws.{le-written}
 use Rattle.records.specs.declared.Record.{Record}
 use Rattle.records.specs.Model.{Entry, kindByte, versionBytes, versionsBytes, entryBytes, tableBytes}
-use Rattle.records.specs.Places.{keyAt, kindOf, recordAt, versionsFrom, entryAt, entriesFrom, nextEntry, entryPlace}
+use Rattle.records.specs.Places.{keyAt, recordAt, versionsFrom, entryAt, entriesFrom, nextEntry, entryPlace}
 use Rattle.records.specs.Tables.{RecordFits, EntryFits, TableFits}
 use Rattle.records.proofs.KindLaws.{kind-back}
 

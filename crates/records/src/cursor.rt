@@ -1,4 +1,7 @@
 // The cursor over entries: an entry's head, a version, and where the next entry stands.
+use super::Kind;
+use super::Record;
+use words::field;
 ghost use mathlib.Core.Path.{_≡_};
 ghost use Prim.Native.Nat.{_+_, _≤_};
 ghost use lib.ListN.{length};
@@ -40,13 +43,13 @@ pub fn head_at(bytes: &[u8], p: usize) -> HeadRead
         return HeadRead::Outside;
     }
     let key = p + Head::BYTES;
-    let length = words::field::u32_at(bytes, p) as usize;
+    let length = field::u32_at(bytes, p) as usize;
     if bytes.len() - key < length {
         return HeadRead::Outside;
     }
-    let versions = words::field::u32_at(bytes, p + 4);
+    let versions = field::u32_at(bytes, p + 4);
     let first = key + length;
-    let next = first + super::Record::BYTES * versions as usize;
+    let next = first + Record::BYTES * versions as usize;
     HeadRead::At(Head {
         key,
         length,
@@ -61,29 +64,29 @@ pub fn next_entry(bytes: &[u8], p: usize) -> usize
     requires { ⌜ nextEntry (now bytes) p ≤ length (now bytes) ⌝ }
     ensures { λ r. ⌜ r ≡ nextEntry (now (bytes .entry)) p ⌝ }
 {
-    let length = words::field::u32_at(bytes, p) as usize;
-    let versions = words::field::u32_at(bytes, p + 4) as usize;
-    p + Head::BYTES + length + super::Record::BYTES * versions
+    let length = field::u32_at(bytes, p) as usize;
+    let versions = field::u32_at(bytes, p + 4) as usize;
+    p + Head::BYTES + length + Record::BYTES * versions
 }
 
 // The version at p.
-pub fn record_at(bytes: &[u8], p: usize) -> super::Record
+pub fn record_at(bytes: &[u8], p: usize) -> Record
     requires { ⌜ p + 21 ≤ length (now bytes) ⌝ }
     ensures { λ r. ⌜ r ≡ recordAt (now (bytes .entry)) p ⌝ }
 {
-    let sequence = words::field::u64_at(bytes, p);
-    let length = words::field::u32_at(bytes, p + 9);
-    let offset = words::field::u64_at(bytes, p + 13);
-    if bytes[p + 8] == super::Kind::PUT {
-        return super::Record {
-            kind: super::Kind::Put,
+    let sequence = field::u64_at(bytes, p);
+    let length = field::u32_at(bytes, p + 9);
+    let offset = field::u64_at(bytes, p + 13);
+    if bytes[p + 8] == Kind::PUT {
+        return Record {
+            kind: Kind::Put,
             sequence,
             offset,
             length,
         };
     }
-    super::Record {
-        kind: super::Kind::Tombstone,
+    Record {
+        kind: Kind::Tombstone,
         sequence,
         offset,
         length,

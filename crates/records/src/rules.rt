@@ -1,8 +1,14 @@
 // The rules of a key and of a version on bytes: 23 to 25 and 27 to 29.
+use super::DataLength;
+use super::Kind;
+use super::KindRead;
+use super::Record;
+use super::cursor::Head;
+use words::field;
+use words::part;
 ghost use mathlib.Core.Path.{_≡_};
 ghost use Prim.Native.Nat.{_+_, _≤_};
 ghost use lib.ListN.{length};
-ghost use Rattle.records.specs.Places.{firstVersion};
 ghost use Rattle.records.specs.Rules.{keyRises, keyRefusal, badKind, pastData, fullTombstone, sequenceFalls, versionRefusal, versionsRefusal, entryRefusal, unslotted};
 ghost use Rattle.records.specs.Needs.{KeysInside, Walking, Following};
 
@@ -14,15 +20,15 @@ fn key_rises(bytes: &[u8], prev: usize, p: usize) -> bool
     if prev == p {
         return true;
     }
-    let a = prev + super::cursor::Head::BYTES;
-    let b = a + words::field::u32_at(bytes, prev) as usize;
-    let c = p + super::cursor::Head::BYTES;
-    let d = c + words::field::u32_at(bytes, p) as usize;
-    let order = words::part::compare(&bytes[a..b], &bytes[c..d]);
+    let a = prev + Head::BYTES;
+    let b = a + field::u32_at(bytes, prev) as usize;
+    let c = p + Head::BYTES;
+    let d = c + field::u32_at(bytes, p) as usize;
+    let order = part::compare(&bytes[a..b], &bytes[c..d]);
     match order {
-        words::part::Order::Less => true,
-        words::part::Order::Equal => false,
-        words::part::Order::Greater => false,
+        part::Order::Less => true,
+        part::Order::Equal => false,
+        part::Order::Greater => false,
     }
 }
 
@@ -31,17 +37,17 @@ pub fn key_refusal(bytes: &[u8], prev: usize, p: usize) -> u8
     requires { ⌜ Walking (now bytes) prev p ⌝ }
     ensures { λ r. ⌜ r ≡ keyRefusal (now (bytes .entry)) prev p ⌝ }
 {
-    if bytes.len() - p < super::cursor::Head::BYTES {
+    if bytes.len() - p < Head::BYTES {
         return 23;
     }
-    let length = words::field::u32_at(bytes, p);
-    if super::cursor::Head::MAX_KEY < length {
+    let length = field::u32_at(bytes, p);
+    if Head::MAX_KEY < length {
         return 24;
     }
-    if bytes.len() - p - super::cursor::Head::BYTES < length as usize {
+    if bytes.len() - p - Head::BYTES < length as usize {
         return 24;
     }
-    if words::field::u32_at(bytes, p + 4) == 0 {
+    if field::u32_at(bytes, p + 4) == 0 {
         return 24;
     }
     if key_rises(bytes, prev, p) {
@@ -54,20 +60,20 @@ pub fn key_refusal(bytes: &[u8], prev: usize, p: usize) -> u8
 pub fn bad_kind(b: u8) -> bool
     ensures { λ r. ⌜ r ≡ badKind b ⌝ }
 {
-    let k = super::Kind::from_byte(b);
+    let k = Kind::from_byte(b);
     match k {
-        super::KindRead::Known(_) => false,
-        super::KindRead::Unknown => true,
+        KindRead::Known(_) => false,
+        KindRead::Unknown => true,
     }
 }
 
 // Offset and length together pass the data, where its length is given.
-pub fn past_data(test: super::DataLength, offset: u64, size: u32) -> bool
+pub fn past_data(test: DataLength, offset: u64, size: u32) -> bool
     ensures { λ r. ⌜ r ≡ pastData test offset size ⌝ }
 {
     match test {
-        super::DataLength::Untested => false,
-        super::DataLength::Of(n) => {
+        DataLength::Untested => false,
+        DataLength::Of(n) => {
             if n < offset {
                 return true;
             }
@@ -80,7 +86,7 @@ pub fn past_data(test: super::DataLength, offset: u64, size: u32) -> bool
 fn full_tombstone(kind: u8, size: u32) -> bool
     ensures { λ r. ⌜ r ≡ fullTombstone kind size ⌝ }
 {
-    if kind == super::Kind::TOMBSTONE {
+    if kind == Kind::TOMBSTONE {
         return size != 0;
     }
     false
@@ -94,26 +100,26 @@ fn sequence_falls(bytes: &[u8], prev: usize, p: usize) -> bool
     if prev == p {
         return true;
     }
-    words::field::u64_at(bytes, p) < words::field::u64_at(bytes, prev)
+    field::u64_at(bytes, p) < field::u64_at(bytes, prev)
 }
 
 // The rule that the version at p breaks, after the one at prev: 27 to 29, or 0.
-pub fn version_refusal(bytes: &[u8], test: super::DataLength, prev: usize, p: usize) -> u8
+pub fn version_refusal(bytes: &[u8], test: DataLength, prev: usize, p: usize) -> u8
     requires { ⌜ Following (now bytes) prev p ⌝ }
     ensures { λ r. ⌜ r ≡ versionRefusal (now (bytes .entry)) test prev p ⌝ }
 {
-    if bytes.len() - p < super::Record::BYTES {
+    if bytes.len() - p < Record::BYTES {
         return 27;
     }
     let kind = bytes[p + 8];
     if bad_kind(kind) {
         return 28;
     }
-    let size = words::field::u32_at(bytes, p + 9);
-    if super::Record::MAX_VALUE < size {
+    let size = field::u32_at(bytes, p + 9);
+    if Record::MAX_VALUE < size {
         return 29;
     }
-    if past_data(test, words::field::u64_at(bytes, p + 13), size) {
+    if past_data(test, field::u64_at(bytes, p + 13), size) {
         return 29;
     }
     if full_tombstone(kind, size) {
@@ -126,7 +132,7 @@ pub fn version_refusal(bytes: &[u8], test: super::DataLength, prev: usize, p: us
 }
 
 // The first rule that one of the count versions from p on breaks, or 0.
-pub fn versions_refusal(bytes: &[u8], test: super::DataLength, p: usize, count: u32) -> u8
+pub fn versions_refusal(bytes: &[u8], test: DataLength, p: usize, count: u32) -> u8
     requires { ⌜ p ≤ length (now bytes) ⌝ }
     ensures { λ r. ⌜ r ≡ versionsRefusal (now (bytes .entry)) test p p count ⌝ }
 {
@@ -139,14 +145,14 @@ pub fn versions_refusal(bytes: &[u8], test: super::DataLength, p: usize, count: 
             return r;
         }
         prev = at;
-        at += super::Record::BYTES;
+        at += Record::BYTES;
         left -= 1;
     }
     0
 }
 
 // The rule that the entry at p breaks, after the one at prev: its key's, then its versions', or 0.
-pub fn entry_refusal(bytes: &[u8], test: super::DataLength, prev: usize, p: usize) -> u8
+pub fn entry_refusal(bytes: &[u8], test: DataLength, prev: usize, p: usize) -> u8
     requires { ⌜ Walking (now bytes) prev p ⌝ }
     ensures { λ r. ⌜ r ≡ entryRefusal unslotted (now (bytes .entry)) test prev p ⌝ }
 {
@@ -154,6 +160,6 @@ pub fn entry_refusal(bytes: &[u8], test: super::DataLength, prev: usize, p: usiz
     if r != 0 {
         return r;
     }
-    let first = p + super::cursor::Head::BYTES + words::field::u32_at(bytes, p) as usize;
-    versions_refusal(bytes, test, first, words::field::u32_at(bytes, p + 4))
+    let first = p + Head::BYTES + field::u32_at(bytes, p) as usize;
+    versions_refusal(bytes, test, first, field::u32_at(bytes, p + 4))
 }

@@ -1,6 +1,6 @@
 -- `pilots_refusal` is 22 or 0. The loop's invariant: what the pilots from `i` on say is what all say. Assumes nothing.
 use Prim.Native.Nat.{_≤_, _-_}
-use mathlib.Core.Path.{_≡_, sym, ap, _∙_}
+use mathlib.Core.Path.{_≡_, sym, _∙_}
 use native.Mathlib.Nat.{sub-zero}
 use Rattle.point.specs.Layout.{keysIn, bucketsIn, pilotAt}
 use Rattle.point.specs.Validate.{pilotsRefusal}

@@ -1,7 +1,5 @@
 -- `head_at` is `headAt`, by its tests; a slice is shorter than 2^63 bytes, so the next place fits. Assumes nothing.
-use mathlib.Core.Path.{sym}
 use native.Mathlib.Omega.{arith}
-use borrow.Author.Tests.{lt-ltb, le-ltb}
 use Rattle.records.proofs.CursorLaws.{head-short, head-cut, head-whole}
 use borrow.Author.Needs.{needs}
 use Rattle.records.proofs.cursor.head_at.Statement.{statement}

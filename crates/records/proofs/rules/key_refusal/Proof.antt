@@ -4,8 +4,9 @@ use mathlib.Core.Path.{_≡_, sym, _∙_}
 use mathlib.Core.Logic.{⊎-elim}
 use native.Mathlib.Omega.{arith}
 use lib.ListN.{length}
+use Rattle.laws.specs.Cases.{eq-or-ne}
 use Rattle.records.specs.Places.{firstVersion}
-use Rattle.records.proofs.RuleLaws.{eq-or-ne, key-short, key-long, key-out, key-none, key-falls, key-passes}
+use Rattle.records.proofs.RuleLaws.{key-short, key-long, key-out, key-none, key-falls, key-passes}
 use borrow.Author.Needs.{needs}
 use Rattle.records.proofs.rules.key_refusal.Statement.{statement}
 use Rattle.records.proofs.rules.key_refusal.Tie as tie
@@ -14,13 +15,17 @@ sub-if1 : tie.Need-sub-if1
 sub-if1 c = search needs
 
 returns : tie.Need-returns
-returns c = let a = c .before .before .args in key-short (a .bytes .now) (a .prev) (a .p) (omega arith)
+returns c =
+    let a = c .before .before .args in
+    key-short (a .bytes .now) (a .prev) (a .p) (omega arith)
 
 u32-at-requires : tie.Need-u32-at-requires
 u32-at-requires c κs = search needs
 
 returns-2 : tie.Need-returns-2
-returns-2 c = let a = c .before .before .before .before .args in key-long (a .bytes .now) (a .prev) (a .p) (omega arith) (omega arith)
+returns-2 c =
+    let a = c .before .before .before .before .args in
+    key-long (a .bytes .now) (a .prev) (a .p) (omega arith) (omega arith)
 
 sub-if3 : tie.Need-sub-if3
 sub-if3 c = search needs
@@ -32,7 +37,9 @@ cast-if3 : tie.Need-cast-if3
 cast-if3 c = search needs
 
 returns-3 : tie.Need-returns-3
-returns-3 c = let a = c .before .before .before .before .before .args in key-out (a .bytes .now) (a .prev) (a .p) (omega arith) (omega arith) (omega arith)
+returns-3 c =
+    let a = c .before .before .before .before .before .args in
+    key-out (a .bytes .now) (a .prev) (a .p) (omega arith) (omega arith) (omega arith)
 
 add-u32-at : tie.Need-add-u32-at
 add-u32-at c = search needs
@@ -41,16 +48,25 @@ u32-at-requires-2 : tie.Need-u32-at-requires-2
 u32-at-requires-2 c κs = search needs
 
 returns-4 : tie.Need-returns-4
-returns-4 c = let a = c .before .before .before .before .before .before .before .args in key-none (a .bytes .now) (a .prev) (a .p) (omega arith) (omega arith) (omega arith) (omega arith)
+returns-4 c =
+    let a = c .before .before .before .before .before .before .before .args in
+    key-none (a .bytes .now) (a .prev) (a .p) (omega arith) (omega arith) (omega arith) (omega arith)
 
 key-rises-requires : tie.Need-key-rises-requires
-key-rises-requires c κs = let a = c .before .before .before .before .before .before .before .args in let h : firstVersion (a .bytes .now) (a .p) ≤ length (a .bytes .now) = omega arith in ⊎-elim (λ (e : a .prev ≡ a .p). record { before = rw e h; here = h }) (λ (n : a .prev ≡ a .p → ⊥). record { before = c .before .before .before .before .before .before .before .pre .before n; here = h }) (eq-or-ne (a .prev) (a .p))
+key-rises-requires c κs =
+    let a = c .before .before .before .before .before .before .before .args in
+    let h : firstVersion (a .bytes .now) (a .p) ≤ length (a .bytes .now) = omega arith in
+    ⊎-elim (λ (e : a .prev ≡ a .p). record { before = rw e h; here = h }) (λ (n : a .prev ≡ a .p → ⊥). record { before = c .before .before .before .before .before .before .before .pre .before n; here = h }) (eq-or-ne (a .prev) (a .p))
 
 returns-5 : tie.Need-returns-5
-returns-5 c = let a = c .before .before .before .before .before .before .before .before .before .args in sym (key-passes (a .bytes .now) (a .prev) (a .p) (record { head = omega arith; small = omega arith; whole = omega arith; some = λ z. c .before .before .if4 .left (c .before .before .before .u32-at2 .ensures ∙ z); rising = sym (c .before .key-rises .ensures) ∙ c .if5 .taken }))
+returns-5 c =
+    let a = c .before .before .before .before .before .before .before .before .before .args in
+    sym (key-passes (a .bytes .now) (a .prev) (a .p) (record { head = omega arith; small = omega arith; whole = omega arith; some = λ z. c .before .before .if4 .left (c .before .before .before .u32-at2 .ensures ∙ z); rising = sym (c .before .key-rises .ensures) ∙ c .if5 .taken }))
 
 returns-6 : tie.Need-returns-6
-returns-6 c = let a = c .before .before .before .before .before .before .before .before .before .args in key-falls (a .bytes .now) (a .prev) (a .p) (omega arith) (omega arith) (omega arith) (λ z. c .before .before .if4 .left (c .before .before .before .u32-at2 .ensures ∙ z)) (sym (c .before .key-rises .ensures) ∙ c .if5 .left)
+returns-6 c =
+    let a = c .before .before .before .before .before .before .before .before .before .args in
+    key-falls (a .bytes .now) (a .prev) (a .p) (omega arith) (omega arith) (omega arith) (λ z. c .before .before .if4 .left (c .before .before .before .u32-at2 .ensures ∙ z)) (sym (c .before .key-rises .ensures) ∙ c .if5 .left)
 
 pub key-refusal-spec : {M : Type 1} → statement M
 key-refusal-spec =

@@ -22,10 +22,15 @@ version-refusal-requires : tie.Need-version-refusal-requires Inv-loop μ-loop
 version-refusal-requires c κs = record { here = search needs; before = search needs }
 
 returns : tie.Need-returns Inv-loop μ-loop
-returns c = let l = c .before .before .before .loop in versions-stop _ _ (l .prev) (l .at) (l .left) (omega arith) _ (c .before .version-refusal .ensures) (c .if1 .taken) ∙ l .inv .2
+returns c =
+    let l = c .before .before .before .loop in
+    versions-stop _ _ (l .prev) (l .at) (l .left) (omega arith) _ (c .before .version-refusal .ensures) (c .if1 .taken) ∙ l .inv .2
 
 add-at : tie.Need-add-at Inv-loop μ-loop
-add-at c = let l = c .before .before .before .loop in let v = versioned (c .before .before .before .before .before .args .bytes .now) (c .before .before .before .before .before .args .test) (l .prev) (l .at) (sym (c .before .version-refusal .ensures) ∙ c .if1 .left) in omega arith
+add-at c =
+    let l = c .before .before .before .loop in
+    let v = versioned (c .before .before .before .before .before .args .bytes .now) (c .before .before .before .before .before .args .test) (l .prev) (l .at) (sym (c .before .version-refusal .ensures) ∙ c .if1 .left) in
+    omega arith
 
 sub-left : tie.Need-sub-left Inv-loop μ-loop
 sub-left c = search needs
@@ -34,10 +39,16 @@ loop-less : tie.Need-loop-less Inv-loop μ-loop
 loop-less c = search needs
 
 loop-again : tie.Need-loop-again Inv-loop μ-loop
-loop-again c = let l = c .before .before .before .loop in let e = sym (c .before .version-refusal .ensures) ∙ c .if1 .left in let v = versioned (c .before .before .before .before .before .args .bytes .now) (c .before .before .before .before .before .args .test) (l .prev) (l .at) e in (omega arith, omega arith, sym (versions-on _ _ (l .prev) (l .at) (l .left) (omega arith) e) ∙ l .inv .2)
+loop-again c =
+    let l = c .before .before .before .loop in
+    let e = sym (c .before .version-refusal .ensures) ∙ c .if1 .left in
+    let v = versioned (c .before .before .before .before .before .args .bytes .now) (c .before .before .before .before .before .args .test) (l .prev) (l .at) e in
+    (omega arith, omega arith, sym (versions-on _ _ (l .prev) (l .at) (l .left) (omega arith) e) ∙ l .inv .2)
 
 returns-2 : tie.Need-returns-2 Inv-loop μ-loop
-returns-2 c = let l = c .before .loop in versions-end _ _ (l .prev) (l .at) (l .left) (omega arith) ∙ l .inv .2
+returns-2 c =
+    let l = c .before .loop in
+    versions-end _ _ (l .prev) (l .at) (l .left) (omega arith) ∙ l .inv .2
 
 pub versions-refusal-spec : {M : Type 1} → statement M
 versions-refusal-spec =

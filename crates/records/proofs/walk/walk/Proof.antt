@@ -26,10 +26,20 @@ entry-refusal-requires : tie.Need-entry-refusal-requires Inv-loop μ-loop
 entry-refusal-requires c κs = c .before .loop .inv .0
 
 returns : tie.Need-returns Inv-loop μ-loop
-returns c = let a = c .before .before .before .before .before .args in let l = c .before .before .before .loop in sym (after-stop _ _ _) ∙ sym (ap (after (l .keys)) (walk-stop unslotted (a .bytes .now) (a .test) (l .prev) (l .p) (a .most - l .keys) (omega arith) _ (c .before .entry-refusal .ensures) (c .if1 .taken))) ∙ l .inv .2
+returns c =
+    let a = c .before .before .before .before .before .args in
+    let l = c .before .before .before .loop in
+    sym (after-stop _ _ _)
+    ∙ sym (ap (after (l .keys)) (walk-stop unslotted (a .bytes .now) (a .test) (l .prev) (l .p) (a .most - l .keys) (omega arith) _ (c .before .entry-refusal .ensures) (c .if1 .taken)))
+    ∙ l .inv .2
 
 next-entry-requires : tie.Need-next-entry-requires Inv-loop μ-loop
-next-entry-requires c κs = let a = c .before .before .before .before .before .args in let l = c .before .before .before .loop in let e = sym (c .before .entry-refusal .ensures) ∙ c .if1 .left in let n = entered unslotted (a .bytes .now) (a .test) (l .prev) (l .p) e in n .next
+next-entry-requires c κs =
+    let a = c .before .before .before .before .before .args in
+    let l = c .before .before .before .loop in
+    let e = sym (c .before .entry-refusal .ensures) ∙ c .if1 .left in
+    let n = entered unslotted (a .bytes .now) (a .test) (l .prev) (l .p) e in
+    n .next
 
 add-keys : tie.Need-add-keys Inv-loop μ-loop
 add-keys c = search needs
@@ -38,13 +48,30 @@ loop-less : tie.Need-loop-less Inv-loop μ-loop
 loop-less c = search needs
 
 loop-again : tie.Need-loop-again Inv-loop μ-loop
-loop-again c = let a = c .before .before .before .before .before .before .args in let l = c .before .before .before .before .loop in let e = sym (c .before .before .entry-refusal .ensures) ∙ c .before .if1 .left in let n = entered unslotted (a .bytes .now) (a .test) (l .prev) (l .p) e in let d : a .most - l .keys - 1 ≡ a .most - (l .keys + 1) = omega arith in let w = walk-on unslotted (a .bytes .now) (a .test) (l .prev) (l .p) (a .most - l .keys) (omega arith) _ e (c .next-entry .ensures) in (record { here = omega (arith, c .next-entry .ensures); before = λ _. n .key .whole }, omega arith, sym (after-more (l .keys) _ ∙ ap (λ (k : ℕ). after (l .keys + 1) (walkFrom unslotted (a .bytes .now) (a .test) (l .p) (c .next-entry .result) k)) d) ∙ sym (ap (after (l .keys)) w) ∙ l .inv .2)
+loop-again c =
+    let a = c .before .before .before .before .before .before .args in
+    let l = c .before .before .before .before .loop in
+    let e = sym (c .before .before .entry-refusal .ensures) ∙ c .before .if1 .left in
+    let n = entered unslotted (a .bytes .now) (a .test) (l .prev) (l .p) e in
+    let d : a .most - l .keys - 1 ≡ a .most - (l .keys + 1) = omega arith in
+    let w = walk-on unslotted (a .bytes .now) (a .test) (l .prev) (l .p) (a .most - l .keys) (omega arith) _ e (c .next-entry .ensures) in
+    (record { here = omega (arith, c .next-entry .ensures); before = λ _. n .key .whole }, omega arith, sym (after-more (l .keys) _ ∙ ap (λ (k : ℕ). after (l .keys + 1) (walkFrom unslotted (a .bytes .now) (a .test) (l .p) (c .next-entry .result) k)) d) ∙ sym (ap (after (l .keys)) w) ∙ l .inv .2)
 
 returns-2 : tie.Need-returns-2 Inv-loop μ-loop
-returns-2 c = let a = c .before .before .before .before .args in let l = c .before .before .loop in sym (after-stop _ _ _) ∙ sym (ap (after (l .keys)) (walk-end unslotted (a .bytes .now) (a .test) (l .prev) (l .p) (a .most - l .keys) _ (omega arith) (eq-eqb _ _ (c .if2 .taken)))) ∙ l .inv .2
+returns-2 c =
+    let a = c .before .before .before .before .args in
+    let l = c .before .before .loop in
+    sym (after-stop _ _ _)
+    ∙ sym (ap (after (l .keys)) (walk-end unslotted (a .bytes .now) (a .test) (l .prev) (l .p) (a .most - l .keys) _ (omega arith) (eq-eqb _ _ (c .if2 .taken))))
+    ∙ l .inv .2
 
 returns-3 : tie.Need-returns-3 Inv-loop μ-loop
-returns-3 c = let a = c .before .before .before .before .args in let l = c .before .before .loop in sym (after-stop _ _ _) ∙ sym (ap (after (l .keys)) (walk-end unslotted (a .bytes .now) (a .test) (l .prev) (l .p) (a .most - l .keys) _ (omega arith) (ne-eqb _ _ (c .if2 .left)))) ∙ l .inv .2
+returns-3 c =
+    let a = c .before .before .before .before .args in
+    let l = c .before .before .loop in
+    sym (after-stop _ _ _)
+    ∙ sym (ap (after (l .keys)) (walk-end unslotted (a .bytes .now) (a .test) (l .prev) (l .p) (a .most - l .keys) _ (omega arith) (ne-eqb _ _ (c .if2 .left))))
+    ∙ l .inv .2
 
 pub walk-spec : {M : Type 1} → statement M
 walk-spec =

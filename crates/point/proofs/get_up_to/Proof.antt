@@ -1,9 +1,9 @@
--- `lookup` is `getOf` up to a sequence: it opens the key, takes the first version within, and answers. Assumes nothing.
+-- `get_up_to` is `getOf` up to a sequence: it opens the key, takes the first version within, and answers. Assumes nothing.
 use mathlib.Core.Path.{sym, _∙_}
 use Rattle.point.proofs.GetLaws.{open-inside, get-open, get-nothing, get-damaged}
 use borrow.Author.Needs.{needs}
-use Rattle.point.proofs.lookup.Statement.{statement}
-use Rattle.point.proofs.lookup.Tie as tie
+use Rattle.point.proofs.get_up_to.Statement.{statement}
+use Rattle.point.proofs.get_up_to.Tie as tie
 
 open-requires : tie.Need-open-requires
 open-requires c κs = search needs
@@ -32,8 +32,8 @@ returns-2 c = sym (get-nothing _ (c .before .before .before .before .before .arg
 returns-3 : tie.Need-returns-3
 returns-3 c = sym (get-damaged _ (c .before .before .before .before .before .args .key .now) (c .before .before .before .before .before .args .data-length) (c .before .before .before .before .before .args .most) _ (c .before .before .«open» .ensures) (c .enum-told2 .given .1))
 
-pub lookup-spec : {M : Type 1} → statement M
-lookup-spec =
+pub get-up-to-spec : {M : Type 1} → statement M
+get-up-to-spec =
     tie.close
     (tie.spec
     open-requires
