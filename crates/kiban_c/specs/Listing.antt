@@ -16,5 +16,5 @@ pub record Printed (text before words : List ℕ) (number : ℕ) (after left : L
   pub answer : left ≡ cond (ltb (length words) 1) words (splice words 0 (listedValues (listedOf text before)))
 
 -- two results that meet it coincide
-pub printed-one : (text before words : List ℕ) (m n : ℕ) (as bs xs ys : List ℕ) → Printed text before words m as xs → Printed text before words n bs ys → (m ≡ n) × (as ≡ bs) × (xs ≡ ys)
-printed-one text before words m n as bs xs ys p q = (cc (p .returned, q .returned), cc (p .buffer, q .buffer), cc (p .answer, q .answer))
+pub printed-one : (text before words : List ℕ) (m n : ℕ) (cs bs xs ys : List ℕ) → Printed text before words m cs xs → Printed text before words n bs ys → (m ≡ n) × (cs ≡ bs) × (xs ≡ ys)
+printed-one text before words m n cs bs xs ys p q = (cc (p .returned, q .returned), cc (p .buffer, q .buffer), cc (p .answer, q .answer))
