@@ -9,7 +9,7 @@ use Rattle.words.specs.Field.{splice}
 use Rattle.records.specs.declared.Limit.{Limit}
 use Rattle.records.specs.declared.Limit.the-variants.{None, UpTo}
 use Rattle.point.specs.declared.Answer.{Answer}
-use Rattle.point.specs.Get.{getOf, answerNumber, answerValues}
+use Rattle.point.specs.Get.{answerNumber, answerValues}
 
 -- the limit that a host gives: none where `limited` is 0
 abbrev pub limitGiven : (limited limit : ℕ) → Limit

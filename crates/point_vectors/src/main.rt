@@ -8,6 +8,7 @@ use vectors::Count;
 use vectors::Cursor;
 use vectors::File;
 use vectors::Next;
+ghost use mathlib.Core.Path.{_≡_};
 ghost use Prim.Native.Nat.{_+_, _≤_};
 ghost use lib.ListN.{length};
 
@@ -19,28 +20,34 @@ struct Tally {
     body: usize,
 }
 
-// Writes the patches of a payload: u8 count at 4, then u32 place and u8 value each.
-fn put_patches(p: &[u8], out: &mut [u8; 4096]) {
-    let count = vectors::u8_in(p, 4) as usize;
-    for i in 0..count {
-        let at = vectors::u32_in(p, 5 + 5 * i) as usize;
-        if at < 4096 {
-            out[at] = vectors::u8_in(p, 9 + 5 * i);
-        }
+// Writes a byte, where its place is inside.
+fn put(out: &mut [u8], at: usize, value: u8) {
+    if at < out.len() {
+        out[at] = value;
     }
 }
 
+// Writes the patches of a payload: u8 count at 4, then u32 place and u8 value each.
+fn put_patches(p: &[u8], out: &mut [u8]) {
+    let count = vectors::u8_in(p, 4) as usize;
+    for i in 0..count {
+        let at = vectors::u32_in(p, 5 + 5 * i) as usize;
+        put(out, at, vectors::u8_in(p, 9 + 5 * i));
+    }
+}
+
+// The byte of a body at a place, or A5 past its end.
+fn byte_of(base: &[u8], i: usize) -> u8 {
+    if i < base.len() { base[i] } else { 0xa5 }
+}
+
 // The base body at the length that stands first in a payload, cut or lengthened with bytes A5, and patched; and that length.
-fn patched(base: &[u8], p: &[u8], out: &mut [u8; 4096]) -> usize
-    ensures { λ r. ⌜ r ≤ 4096 ⌝ }
+fn patched(base: &[u8], p: &[u8], out: &mut [u8]) -> usize
+    ensures { λ r. ⌜ r ≤ length (now (out .entry)) ⌝ }
 {
-    let size = words::wide::min(vectors::u32_in(p, 0) as usize, 4096);
+    let size = words::wide::min(vectors::u32_in(p, 0) as usize, out.len());
     for i in 0..size {
-        if i < base.len() {
-            out[i] = base[i];
-        } else {
-            out[i] = 0xa5;
-        }
+        out[i] = byte_of(base, i);
     }
     put_patches(p, out);
     size
@@ -70,7 +77,9 @@ fn validate_agrees(base: &[u8], p: &[u8]) -> bool {
 }
 
 // The data that gets are lent: byte i is (i * 167 ^ (i / 256) * 59 ^ i / 65536) mod 256.
-fn data() -> [u8; 4096] {
+fn data() -> [u8; 4096]
+    ensures { λ r. ⌜ 4096 ≡ length r ⌝ }
+{
     let mut bytes = [0u8; 4096];
     for i in 0..4096usize {
         bytes[i] = ((i * 167 ^ i / 256 * 59 ^ i / 65536) % 256) as u8;
