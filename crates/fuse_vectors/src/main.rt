@@ -1,4 +1,6 @@
 // Replays the stored vectors of the filter's reading side: ops 04 positions, 05 sizing, 33 read and ask on the filter that 32 set.
+ghost use mathlib.Core.Path.{_≡_};
+ghost use lib.ListN.{length};
 use filter::Answer;
 use filter::SstFilter;
 use fuse::Sizes;
@@ -97,6 +99,13 @@ fn patched_byte(base: &[u8], p: &[u8], at: usize) -> u8 {
     byte
 }
 
+// Room for the longest filter of the stored cases, on the stack.
+fn room() -> [u8; 2097200]
+    ensures { λ r. ⌜ 2097200 ≡ length r ⌝ }
+{
+    [0; 2097200]
+}
+
 // Lays the first `size` bytes of the patched filter.
 fn lay(bytes: &mut [u8], size: usize, base: &[u8], p: &[u8]) {
     let n = words::wide::min(size, bytes.len());
@@ -145,16 +154,16 @@ fn answers_agree(bytes: &[u8], p: &[u8]) -> bool {
     true
 }
 
-// 33: patched filter (u32 length, to the longest of the stored cases; u8 patches, each of 5 bytes), then the hashes and their answers.
+// 33: patched filter (u32 length, u8 patches, each of 5 bytes), then the hashes and their answers.
 fn asked_agrees(base: &[u8], p: &[u8]) -> bool {
-    let mut room = [0u8; 2097200];
+    let mut bytes = room();
     let size = vectors::u32_in(p, 0) as usize;
     if 2097200 < size {
         return false;
     }
     let from = vectors::end_in(p, 5, 5 * vectors::u8_in(p, 4) as usize);
-    lay(&mut room, size, base, p);
-    answers_agree(&room[..size], &p[from..])
+    lay(&mut bytes, size, base, p);
+    answers_agree(&bytes[..size], &p[from..])
 }
 
 impl Tally {
