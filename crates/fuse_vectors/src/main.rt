@@ -1,4 +1,6 @@
 // Replays the stored vectors of the filter's reading side: ops 04 positions, 05 sizing, 33 read and ask on the filter that 32 set.
+ghost use mathlib.Core.Path.{_≡_};
+ghost use lib.ListN.{length};
 use filter::Answer;
 use filter::SstFilter;
 use fuse::Sizes;
@@ -74,28 +76,42 @@ fn sizing_agrees(p: &[u8]) -> bool {
     words::wide::wrapping_mul(segments, s.segment as u64) == vectors::u32_in(p, 12) as u64
 }
 
-// Fills the bytes with those of the base, and A5 past its end.
-fn lay(bytes: &mut [u8], base: &[u8]) {
-    let mut i = 0;
-    while i < bytes.len() {
-        if i < base.len() {
-            bytes[i] = base[i];
-        } else {
-            bytes[i] = 0xa5;
-        }
-        i += 1;
+// The byte of the base, or A5 past its end.
+fn base_byte(base: &[u8], at: usize) -> u8 {
+    if at < base.len() {
+        return base[at];
     }
+    0xa5
 }
 
-// Makes the patches that stand from byte 5 on: u32 place, u8 value.
-fn patch(bytes: &mut [u8], p: &[u8], patches: u8) {
+// The byte of the patched filter: of the base, unless one of the patches (u32 place, u8 value, from byte 5 on) is there.
+fn patched_byte(base: &[u8], p: &[u8], at: usize) -> u8 {
+    let mut byte = base_byte(base, at);
+    let patches = vectors::u8_in(p, 4);
     let mut i: u8 = 0;
     while i < patches {
         let from = 5 + 5 * i as usize;
-        let place = vectors::u32_in(p, from) as usize;
-        if place < bytes.len() {
-            bytes[place] = vectors::u8_in(p, from + 4);
+        if vectors::u32_in(p, from) as usize == at {
+            byte = vectors::u8_in(p, from + 4);
         }
+        i += 1;
+    }
+    byte
+}
+
+// Room for the longest filter of the stored cases, on the stack.
+fn room() -> [u8; 2097200]
+    ensures { λ r. ⌜ 2097200 ≡ length r ⌝ }
+{
+    [0; 2097200]
+}
+
+// Lays the first `size` bytes of the patched filter.
+fn lay(bytes: &mut [u8], size: usize, base: &[u8], p: &[u8]) {
+    let n = words::wide::min(size, bytes.len());
+    let mut i = 0;
+    while i < n {
+        bytes[i] = patched_byte(base, p, i);
         i += 1;
     }
 }
@@ -140,16 +156,14 @@ fn answers_agree(bytes: &[u8], p: &[u8]) -> bool {
 
 // 33: patched filter (u32 length, u8 patches, each of 5 bytes), then the hashes and their answers.
 fn asked_agrees(base: &[u8], p: &[u8]) -> bool {
-    let mut room = [0u8; 16384];
-    let length = vectors::u32_in(p, 0) as usize;
-    let patches = vectors::u8_in(p, 4);
-    let from = vectors::end_in(p, 5, 5 * patches as usize);
-    if 16384 < length {
+    let mut bytes = room();
+    let size = vectors::u32_in(p, 0) as usize;
+    if 2097200 < size {
         return false;
     }
-    lay(&mut room[..length], base);
-    patch(&mut room[..length], p, patches);
-    answers_agree(&room[..length], &p[from..])
+    let from = vectors::end_in(p, 5, 5 * vectors::u8_in(p, 4) as usize);
+    lay(&mut bytes, size, base, p);
+    answers_agree(&bytes[..size], &p[from..])
 }
 
 impl Tally {
