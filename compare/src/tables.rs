@@ -13,7 +13,11 @@ fn constant(name: &str) -> Vec<u64> {
 }
 
 /// A line with one case a row.
-fn line<T: PartialEq + std::fmt::Debug>(name: &str, have: impl FnOnce() -> Vec<T>, make: impl FnOnce() -> Vec<T>) -> Line {
+fn line<T: PartialEq + std::fmt::Debug>(
+    name: &str,
+    have: impl FnOnce() -> Vec<T>,
+    make: impl FnOnce() -> Vec<T>,
+) -> Line {
     Line::timed(name, |line| {
         let (have, made) = (have(), make());
         for i in 0..made.len().max(have.len()) {

@@ -36,14 +36,50 @@ fn damaged(r: &mut Rng, bytes: &mut Vec<u8>) {
     }
 }
 
+/// A Fuse header with these fields, and so many cells.
+fn fuse(keys: u64, segment: u32, count: u64, cells: u32, again: u32, length: usize) -> Vec<u8> {
+    let mut bytes = b"KIBANFL2\x01\x02\x01\x08\x30\0\0\0".to_vec();
+    bytes.extend(keys.to_le_bytes());
+    bytes.extend(7u64.to_le_bytes());
+    [segment, count as u32, cells, again].iter().for_each(|x| bytes.extend(x.to_le_bytes()));
+    bytes.extend((0..length).map(|i| oracle::paper::mix(i as u64) as u8));
+    bytes
+}
+
 impl Call for FilterRead {
     type Case = Case;
     type Answer = Answer;
     const NAME: &'static str = "kiban_filter_read, ask";
     const ONE_IN: u64 = 20;
 
+    /// Positive, whole and with a cell; Fuse at each edge of its fields, and one past it.
     fn fixed() -> Vec<Case> {
-        vec![Case { bytes: oracle::paper::positive(), hashes: vec![0, 1, u64::MAX], answers: 6, asked: 3 }]
+        let positive = oracle::paper::positive();
+        let most = u32::MAX as u64;
+        let fuses = [
+            (1, 1, 1, 4, 4, 4),
+            (0, 1, 1, 4, 4, 4),
+            (most, 1, 1, 4, 4, 4),
+            (most + 1, 1, 1, 4, 4, 4),
+            (u64::MAX, 1, 1, 4, 4, 4),
+            (1, 1, 0, 3, 3, 3),
+            (1, 1, 1, 4, 5, 4),
+            (1, 1, 1, 5, 4, 4),
+            (1, 1, 1, 4, 4, 3),
+            (1, 1, 1, 4, 4, 5),
+            (1, 0, 1, 0, 0, 0),
+            (1, 3, 1, 12, 12, 12),
+            (1, 6, 2, 30, 30, 30),
+            (1, 262_144, 1, 1 << 20, 1 << 20, 1 << 20),
+            (1, 524_288, 1, 1 << 21, 1 << 21, 1 << 21),
+            (1, 262_144, 16_381, 0, 0, 0),
+            (1, 1, most, 2, 2, 2),
+            (1, 1 << 31, 1, 0, 0, 0),
+        ];
+        let fuses =
+            fuses.map(|(keys, segment, count, cells, again, length)| fuse(keys, segment, count, cells, again, length));
+        let bytes = [positive.clone(), [positive, vec![0]].concat(), Vec::new()].into_iter().chain(fuses);
+        bytes.map(|bytes| Case { bytes, hashes: vec![0, 1, u64::MAX], answers: 6, asked: 3 }).collect()
     }
     fn draw(r: &mut Rng) -> Case {
         let mut hashes = drawn::hashes(r);

@@ -2,7 +2,14 @@
 use mathlib.Core.Path.{_≡_, sym, _∙_}
 use mathlib.Core.List.{List}
 use Prim.Native.Nat.{ℕ}
+use Rattle.mixing.specs.Mixing.{mixOf, hashOf}
 use Rattle.kiban_c.specs.FilterCalls.{FilterReadPost, filterAskOf, FilterAskAllPost}
+
+pub mix-unique : (h : ℕ) {r q : ℕ} → r ≡ mixOf h → q ≡ mixOf h → r ≡ q
+mix-unique h p t = p ∙ sym t
+
+pub hash-unique : (seed : ℕ) (key : List ℕ) {r q : ℕ} → r ≡ hashOf seed key → q ≡ hashOf seed key → r ≡ q
+hash-unique seed key p t = p ∙ sym t
 
 pub filter-read-unique : {bytes answer after later : List ℕ} {r q : ℕ}
     → FilterReadPost bytes answer r after → FilterReadPost bytes answer q later → (r ≡ q) × (after ≡ later)
