@@ -1,0 +1,7 @@
+pub mod HeaderLaws
+pub mod GetLaws
+pub mod ValidateLaws
+pub mod SlotLaws
+pub mod LookupLaws
+pub mod OpenLaws
+pub mod Theorems
