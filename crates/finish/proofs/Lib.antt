@@ -1,0 +1,5 @@
+pub mod RowLaws
+pub mod LengthLaws
+pub mod CheckLaws
+pub mod BodyLaws
+pub mod FinishLaws
