@@ -1,16 +1,13 @@
 -- On an accepted body: the arena is the bytes of one table, and each slot belongs to exactly one key, since n keys stand in n slots.
 -- Assumes nothing.
 use Prim.Native.Nat.{ℕ, _+_, _-_, _<_, _≤_}
-use native.Mathlib.Nat.{eq-or-lt-of-le}
 use native.Mathlib.Omega.{arith}
 use mathlib.Core.Path.{_≡_, refl, sym, ap, _∙_}
 use mathlib.Core.List.{List}
-use mathlib.Core.Bool.{Bool, true, false}
-use mathlib.Core.Logic.{_⊎_, ⊎-elim}
+use mathlib.Core.Bool.{false}
 use lib.ListN.{length, drop, take, length-drop}
 use lib.Seq.{take-length}
-use lib.Dec.{leb}
-use borrow.Author.Tests.{ltb-false, leb-true, leb-false}
+use borrow.Author.Tests.{ltb-false}
 use Rattle.laws.specs.Each.{each-map}
 use Rattle.laws.specs.Pigeonhole.{Hit, onto}
 use Rattle.words.proofs.Laws.{AllBytes}
