@@ -4,19 +4,21 @@ use native.Mathlib.Nat.{sub-zero}
 use native.Mathlib.Decide.{ℕ-discrete}
 use native.Mathlib.Numerals.{lt-of-le-of-ne}
 use native.Mathlib.Omega.{arith}
-use mathlib.Core.Path.{_≡_, refl, sym, ap, ap₂, _∙_}
+use mathlib.Core.Path.{_≡_, refl, sym, ap, ap₂, _∙_, subst}
 use mathlib.Core.List.{List, [], _∷_, _++_, flatMap, append-assoc}
-use lib.ListN.{length, getD, set, take, drop, length-append}
+use lib.ListN.{length, getD, set, take, drop, length-append, length-drop}
 use lib.Seq.{getD-set-same, getD-set-other, length-take-le}
 use Rattle.words.specs.Field.{bytesOf, splice}
 use Rattle.words.proofs.Laws.{length-bytesOf, length-splice}
 use Rattle.mixing.specs.Mixing.{fingerprintOf}
-use Rattle.records.specs.Places.{entryPlace}
+use Rattle.records.specs.Places.{nextEntry, entryPlace}
 use Rattle.construct.specs.Construct.{bucketsOf, Placing}
+use Rattle.construct.specs.Keys.{Entries}
 use Rattle.construct.specs.Layout.{placing}
+use Rattle.construct.proofs.KeysLaws.{entry-rises}
 use Rattle.point.specs.Layout.{magic}
 use Rattle.finish.specs.Body.{arenaStart, headerBytes, pilotsBytes, slotBytes, heldSlot, slotsBytes, bodyBytes}
-use Rattle.finish.specs.Needs.{Listed, listedSlot, Filled, Written}
+use Rattle.finish.specs.Needs.{Room, Listed, listedSlot, Filled, Written}
 use Rattle.finish.proofs.RowLaws.{splice-then, flat-same, flat-long}
 
 -- ---- lengths
@@ -48,6 +50,11 @@ slots-long arena seed slots = flat-long (heldSlot arena seed) 12 (held-long aren
 pub body-long : (arena : List ℕ) (n seed : ℕ) (pl : Placing) → length (pl .pilots) ≡ bucketsOf n → length (pl .slots) ≡ n → length (bodyBytes arena n seed pl) ≡ arenaStart n + length arena
 unfolding bodyBytes arenaStart
 body-long arena n seed pl ep es = simp (length-append, header-long, pilots-long, slots-long) (omega arith)
+
+-- the arena start, by the number of buckets
+pub start-is : (n b : ℕ) → b ≡ bucketsOf n → arenaStart n ≡ 32 + 4 * b + 12 * n
+unfolding arenaStart
+start-is n b e = omega arith
 
 pub few-buckets : (n : ℕ) → bucketsOf n ≤ n
 unfolding bucketsOf
@@ -97,12 +104,84 @@ listed-more arena h h0 n i p l len e keep so = (
 -- the slots by what the workspace holds are the slots of the keys
 pub slots-listed : (arena h h′ w : List ℕ) (n seed : ℕ) → Listed arena n h h′ → Written arena h w n seed → (slots : List ℕ) → Filled n slots
     → flatMap (listedSlot h′ n) slots ≡ slotsBytes arena seed slots
-unfolding slotsBytes
+unfolding slotsBytes listedSlot heldSlot
 slots-listed arena h h′ w n seed L W slots F = flat-same (listedSlot h′ n) (heldSlot arena seed) slots same
   where
     same : (s : ℕ) → s < length slots → listedSlot h′ n (getD slots s 0) ≡ heldSlot arena seed (getD slots s 0)
-    unfolding listedSlot heldSlot
     same s l =
         let m = getD slots s 0 - 1 in
         let low : m < n = omega (arith, F .filled s l, F .keys s l) in
         ap₂ slotBytes (L .places m low) (ap fingerprintOf (L .hashes m low ∙ W .hashes m low))
+
+-- entry i lies inside the arena, where i is less than the n that do
+pub entry-inside : (arena : List ℕ) (n i p : ℕ) → Entries arena n → p ≡ entryPlace arena 0 i → i < n → nextEntry arena p ≤ length arena
+entry-inside arena n i p E e l = subst (λ (x : ℕ). nextEntry arena x ≤ length arena) (sym e) (omega (arith, entry-rises arena i n l, E))
+
+-- ---- parts of the words of 32 bits
+
+pub part-long : (w : List ℕ) (from size to : ℕ) → to ≡ from + size → to ≤ length w → length (take (to - from) (drop from w)) ≡ size
+part-long w from size to e h = length-take-le (to - from) (drop from w) (simp length-drop (omega arith)) ∙ omega arith
+
+module _ (w : List ℕ) (n b : ℕ) (e : b ≡ bucketsOf n) where
+  pub pilots-part : (from to : ℕ) → from ≡ b + 1 → to ≡ from + b → take (to - from) (drop from w) ≡ placing n (bucketsOf n) w .pilots
+  unfolding placing
+  pilots-part from to ef et =
+      let q : to - from ≡ b = omega arith in
+      rw (q, ef, e)
+
+  pub slots-part : (from to : ℕ) → from ≡ b + 1 + b → to ≡ from + n → take (to - from) (drop from w) ≡ placing n (bucketsOf n) w .slots
+  unfolding placing
+  slots-part from to ef et =
+      let q : to - from ≡ n = omega arith in
+      rw (q, ef, e)
+
+module _ (arena out h w : List ℕ) (n : ℕ) (R : Room arena out h w n) where
+  pub room-pilots : length (placing n (bucketsOf n) w .pilots) ≡ bucketsOf n
+  unfolding placing
+  room-pilots = length-take-le (bucketsOf n) (drop (bucketsOf n + 1) w) (simp length-drop (omega (arith, few-buckets n, R .words)))
+
+  pub room-slots : length (placing n (bucketsOf n) w .slots) ≡ n
+  unfolding placing
+  room-slots = length-take-le n (drop (bucketsOf n + 1 + bucketsOf n) w) (simp length-drop (omega (arith, few-buckets n, R .words)))
+
+  -- the room before the arena, by the number of buckets
+  pub room-start : (b : ℕ) → b ≡ bucketsOf n → 32 + 4 * b + 12 * n + length arena ≤ length out
+  unfolding arenaStart
+  room-start b e = omega (arith, R .room)
+
+-- ---- header and pilots, and the whole body
+
+pub front-written : (o0 o1 o2 : List ℕ) (n seed : ℕ) (pilots : List ℕ) → 32 ≤ length o0 → o1 ≡ splice o0 0 (headerBytes seed n) → o2 ≡ splice o1 32 (pilotsBytes pilots) → o2 ≡ splice o0 0 (headerBytes seed n ++ pilotsBytes pilots)
+front-written o0 o1 o2 n seed pilots h e1 e2 =
+    let l = header-long seed n in
+    e2 ∙ ap (λ (z : List ℕ). splice z 32 (pilotsBytes pilots)) e1 ∙ splice-then o0 0 (headerBytes seed n) 32 (pilotsBytes pilots) (omega arith) (omega arith)
+
+pub body-written : (arena o0 o1 o2 o3 h h′ w : List ℕ) (n seed b start : ℕ) (pilots slots : List ℕ) → Room arena o0 h w n → Written arena h w n seed → Listed arena n h h′ → b ≡ bucketsOf n → start ≡ arenaStart n
+    → pilots ≡ placing n (bucketsOf n) w .pilots → slots ≡ placing n (bucketsOf n) w .slots
+    → o1 ≡ splice o0 0 (headerBytes seed n ++ pilotsBytes pilots) → o2 ≡ splice o1 (32 + 4 * b) (flatMap (listedSlot h′ (length slots)) slots) → o3 ≡ splice o2 start arena
+    → o3 ≡ splice o0 0 (bodyBytes arena n seed (placing n (bucketsOf n) w))
+unfolding bodyBytes
+body-written arena o0 o1 o2 o3 h h′ w n seed b start pilots slots R W L eb es ep eq e1 e2 e3 =
+    let P = placing n (bucketsOf n) w .pilots in
+    let S = placing n (bucketsOf n) w .slots in
+    let front = headerBytes seed n ++ pilotsBytes P in
+    let body = slotsBytes arena seed S in
+    let lp = room-pilots arena o0 h w n R in
+    let ls = room-slots arena o0 h w n R in
+    let lf : length front ≡ 32 + 4 * b = simp (length-append, header-long, pilots-long) (omega arith) in
+    let lb : length (front ++ body) ≡ 32 + 4 * b + 12 * n = length-append front body ∙ omega (arith, slots-long arena seed S) in
+    let room = room-start arena o0 h w n R b eb in
+    let st : start ≡ 32 + 4 * b + 12 * n = es ∙ start-is n b eb in
+    let q1 : o1 ≡ splice o0 0 front = e1 ∙ ap (λ (z : List ℕ). splice o0 0 (headerBytes seed n ++ pilotsBytes z)) ep in
+    let listed : flatMap (listedSlot h′ (length slots)) slots ≡ body = ap (λ (z : List ℕ). flatMap (listedSlot h′ (length z)) z) eq ∙ ap (λ (x : ℕ). flatMap (listedSlot h′ x) S) ls ∙ slots-listed arena h h′ w n seed L W S (W .slots) in
+    let q2 : o2 ≡ splice o0 0 (front ++ body) = e2 ∙ ap (splice o1 (32 + 4 * b)) listed ∙ ap (λ (z : List ℕ). splice z (32 + 4 * b) body) q1 ∙ splice-then o0 0 front (32 + 4 * b) body (omega arith) (omega arith) in
+    e3 ∙ ap (λ (z : List ℕ). splice z start arena) q2 ∙ splice-then o0 0 (front ++ body) start arena (omega arith) (omega arith) ∙ ap (splice o0 0) (simp append-assoc)
+
+-- what the writing of the slots asks, of the parts of what is lent
+pub slots-asked : (arena out h w : List ℕ) (n seed b : ℕ) (h′ out′ : List ℕ) → Room arena out h w n → Written arena h w n seed → b ≡ bucketsOf n → length h′ ≡ length h → length out′ ≡ length out → (slots : List ℕ) → slots ≡ placing n (bucketsOf n) w .slots
+    → Filled (length slots) slots × (length h′ ≡ length slots + length slots) × (32 + 4 * b + 12 * length slots ≤ length out′)
+slots-asked arena out h w n seed b h′ out′ R W eb eh eo slots es =
+    let l : length slots ≡ n = ap length es ∙ room-slots arena out h w n R in
+    let room = room-start arena out h w n R b eb in
+    let long = R .long in
+    (subst (λ (z : List ℕ). Filled (length z) z) (sym es) (subst (λ (x : ℕ). Filled x (placing n (bucketsOf n) w .slots)) (sym (room-slots arena out h w n R)) (W .slots)), omega arith, omega arith)

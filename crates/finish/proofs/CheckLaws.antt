@@ -52,6 +52,11 @@ any-false test n i h l = go (test i) refl
     go true e = absurd (false≢true (sym h ∙ any-some test i n l e))
     go false e = refl
 
+-- the test of a slot by what was read of it
+pub unmatched-at : (hs pilots slots : List ℕ) (n s : ℕ) (r : Bool) → n ≡ length slots → r ≡ unmatched hs pilots n s (getD slots s 0) → unmatchedAt hs pilots slots s ≡ r
+unfolding unmatchedAt
+unmatched-at hs pilots slots n s r e h = ap (λ (x : ℕ). unmatched hs pilots x s (getD slots s 0)) (sym e) ∙ sym h
+
 -- where the self-check passes, each slot does
 pub slot-matched : (hs pilots slots : List ℕ) → mismatch hs pilots slots ≡ false → (s : ℕ) → s < length slots → Matched hs pilots (length slots) s (getD slots s 0)
 unfolding mismatch unmatchedAt

@@ -1,6 +1,6 @@
 -- Rows of fields of one size: written one after another they are one part. Assumes nothing.
 use Prim.Native.Nat.{ℕ, suc, _+_, _*_, _≤_, _<_}
-use native.Mathlib.Nat.{mul-zero, mul-suc}
+use native.Mathlib.Nat.{add-zero, mul-zero, mul-suc}
 use native.Mathlib.Numerals.{add-one}
 use native.Mathlib.Omega.{arith}
 use mathlib.Core.Path.{_≡_, refl, sym, ap, _∙_}
@@ -16,7 +16,7 @@ splice-then xs at ys to zs h e = ap (λ (x : ℕ). splice (splice xs at ys) x zs
 
 pub splice-none : (xs : List ℕ) (at : ℕ) → splice xs at [] ≡ xs
 unfolding splice
-splice-none xs at = simp append-nil (take-append-drop at xs)
+splice-none xs at = simp append-nil (ap (λ (x : ℕ). take at xs ++ drop x xs) (add-zero at) ∙ take-append-drop at xs)
 
 module _ (f : ℕ → List ℕ) where
   flat-append : (xs ys : List ℕ) → flatMap f (xs ++ ys) ≡ flatMap f xs ++ flatMap f ys

@@ -86,7 +86,14 @@ pub fn finish(arena: &[u8], out: &mut [u8], wide: &mut [u64], narrow: &mut [u32]
 {
     let walked = walk(arena, DataLength::Untested, arena.len());
     let n = walked.keys;
-    let refused = length_refusal(arena.len(), walked.end, n, out.len(), wide.len(), narrow.len());
+    let refused = length_refusal(
+        arena.len(),
+        walked.end,
+        n,
+        out.len(),
+        wide.len(),
+        narrow.len(),
+    );
     if refused != 0 {
         return Finished::Refused(refused);
     }
