@@ -56,19 +56,19 @@ numbered-lengths size end n out wide narrow =
     (numbered-more (zero-lt-suc 4) (numbered-more (zero-lt-suc 4) (numbered-more (zero-lt-suc 8) (numbered-more (zero-lt-suc 8) (numbered-more (zero-lt-suc 5) numbered-none)))))
 
 module _ (arena : List ℕ) (out wide narrow : ℕ) where
-  both : finishRefusal arena out wide narrow ≡ orElse (lengthsRefusal arena out wide narrow) (placingRefusal arena (keysOf arena))
+  pub refused-by : finishRefusal arena out wide narrow ≡ orElse (lengthsRefusal arena out wide narrow) (placingRefusal arena (keysOf arena))
   unfolding finishRefusal lengthRefusal placingRefusal
-  both =
+  refused-by =
       first-append (lengthCauses (length arena) (walked arena .end) (keysOf arena) out wide narrow) (placingCauses arena (keysOf arena))
       (numbered-lengths (length arena) (walked arena .end) (keysOf arena) out wide narrow)
 
   -- a refusal before the keys are placed
   pub refused-early : (lengthsRefusal arena out wide narrow ≡ 0 → ⊥) → finishRefusal arena out wide narrow ≡ lengthsRefusal arena out wide narrow
-  refused-early h = both ∙ orElse-stop _ _ h
+  refused-early h = refused-by ∙ orElse-stop _ _ h
 
   -- and none
   pub refused-late : lengthsRefusal arena out wide narrow ≡ 0 → finishRefusal arena out wide narrow ≡ placingRefusal arena (keysOf arena)
-  refused-late h = both ∙ ap (λ (x : ℕ). orElse x (placingRefusal arena (keysOf arena))) h
+  refused-late h = refused-by ∙ ap (λ (x : ℕ). orElse x (placingRefusal arena (keysOf arena))) h
 
 -- a refusal is answered by its number
 pub answered-refused : (r size : ℕ) → (r ≡ 0 → ⊥) → answered r size ≡ Refused r

@@ -6,7 +6,7 @@ use native.Mathlib.Omega.{arith}
 use mathlib.Core.Path.{_≡_, refl, sym, ap, _∙_}
 use mathlib.Core.List.{List, [], _∷_, _++_, flatMap, append-nil, append-assoc}
 use lib.ListN.{length, getD, take, drop, length-append, take-append-drop}
-use lib.Seq.{take-suc, length-take-le}
+use lib.Seq.{take-suc, length-take-le, split-at}
 use Rattle.words.specs.Field.{splice}
 use Rattle.words.proofs.Laws.{splice-splice}
 
@@ -24,6 +24,10 @@ module _ (f : ℕ → List ℕ) where
   flat-append [] ys = refl
   flat-append (x ∷ xs) ys = ap (λ (z : List ℕ). f x ++ z) (flat-append xs ys) ∙ sym (append-assoc (f x) (flatMap f xs) (flatMap f ys))
 
+  flat-cons : (y : ℕ) (ys : List ℕ) → flatMap f (y ∷ ys) ≡ f y ++ flatMap f ys
+  unfolding flatMap
+  flat-cons y ys = refl
+
   flat-one : (x : ℕ) → flatMap f (x ∷ []) ≡ f x
   unfolding flatMap
   flat-one x = append-nil (f x)
@@ -37,6 +41,10 @@ module _ (f : ℕ → List ℕ) where
   unfolding flatMap
   flat-same g [] h = refl
   flat-same g (x ∷ xs) h = rw (h 0 (omega arith), flat-same g xs (λ i l. h (suc i) (omega arith)))
+
+  -- a row, split around one of its fields
+  pub flat-split : (xs : List ℕ) (k : ℕ) → k < length xs → flatMap f xs ≡ flatMap f (take k xs) ++ (f (getD xs k 0) ++ flatMap f (drop (suc k) xs))
+  flat-split xs k l = ap (flatMap f) (split-at xs k 0 l) ∙ flat-append (take k xs) (getD xs k 0 ∷ drop (suc k) xs) ∙ ap (λ (z : List ℕ). flatMap f (take k xs) ++ z) (flat-cons (getD xs k 0) (drop (suc k) xs))
 
   module _ (k : ℕ) (size : (x : ℕ) → length (f x) ≡ k) where
     pub flat-long : (xs : List ℕ) → length (flatMap f xs) ≡ k * length xs
