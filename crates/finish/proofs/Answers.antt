@@ -1,21 +1,20 @@
 -- What is promised of finish's answers: each number exactly for its cause; 10 exactly where each of the eight attempts fails; 11 never;
 -- its result is fixed. Assumes nothing.
-use Prim.Native.Nat.{ℕ, zero, suc, _+_, _*_, _<_, _≤_}
+use Prim.Native.Nat.{ℕ, zero, suc, _<_}
 use native.Mathlib.Omega.{arith}
-use mathlib.Core.Path.{_≡_, refl, sym, ap, _∙_}
-use mathlib.Core.Bool.{Bool, true, false, false≢true}
+use mathlib.Core.Path.{_≡_, refl, sym, _∙_}
+use mathlib.Core.Bool.{true, false≢true}
 use mathlib.Core.List.{List}
 use mathlib.Core.Option.{Option, none, some}
-use lib.ListN.{length}
+use mathlib.Core.Logic.{_⊎_, inl, inr}
 use borrow.Author.Tests.{eqb-false}
 use Rattle.laws.specs.Refusals.{First, first-given, first-only}
 use Rattle.laws.specs.Refusals.First.{here, later}
-use Rattle.construct.specs.Construct.{bucketsOf, Placing, attemptOf}
+use Rattle.construct.specs.Construct.{Placing, attemptOf}
 use Rattle.construct.specs.Keys.{attemptHashes}
 use Rattle.construct.proofs.Exhausting.{all-fail, none-left}
 use Rattle.finish.specs.declared.Finished.{Finished}
-use Rattle.finish.specs.declared.Finished.the-variants.{Body, Refused}
-use Rattle.finish.specs.Body.{arenaStart, placedOf}
+use Rattle.finish.specs.Body.{placedOf}
 use Rattle.finish.specs.Finish.{keysOf, unplaced, mismatched, lengthsRefusal, placingRefusal, finishCauses, finishRefusal, answered, bodyLength, finishOf, FinishPost, finishedNumber}
 use Rattle.finish.proofs.FinishLaws.{refused-late}
 use Rattle.finish.proofs.SelfCheck.{check-passes}
@@ -81,6 +80,17 @@ module _ (arena : List ℕ) (out wide narrow : ℕ) where
       go (later h (later h1 (later h2 (later h3 (later h4 (later h5 (later h6 (here h7 z)))))))) =
           let n = eqb-false (keysOf arena) 0 h1 in
           last (omega arith) (placedOf arena (keysOf arena)) refl h7
+
+-- THEOREM: past the length checks the answer is a body or 10
+pub body-or-ten : (arena : List ℕ) (out wide narrow : ℕ) → 0 < keysOf arena → lengthsRefusal arena out wide narrow ≡ 0
+    → (finishedNumber (finishOf arena out wide narrow) ≡ 0) ⊎ (finishedNumber (finishOf arena out wide narrow) ≡ 10)
+unfolding placingRefusal
+body-or-ten arena out wide narrow any z = go (placedOf arena (keysOf arena)) refl (finish-number arena out wide narrow ∙ refused-late arena out wide narrow z)
+  where
+    go : (o : Option (ℕ × Placing)) → placedOf arena (keysOf arena) ≡ o → finishedNumber (finishOf arena out wide narrow) ≡ placingRefusal arena (keysOf arena)
+        → (finishedNumber (finishOf arena out wide narrow) ≡ 0) ⊎ (finishedNumber (finishOf arena out wide narrow) ≡ 10)
+    go none q e = inr (e ∙ rw q)
+    go (some (i, pl)) q e = inl (e ∙ rw (q, check-passes arena (keysOf arena) i pl any q))
 
 -- two results that meet the contract are the same
 pub record Same (r s : Finished) (o p w x u v : List ℕ) : Type 0 where
