@@ -1,14 +1,14 @@
 -- What the tests of add leave: the facts of a call that no cause refuses, and back; its answer and its buffer from the refusal.
 -- Assumes nothing.
-use Prim.Native.Nat.{ℕ, _+_, _-_, _≤_, _<_}
-use mathlib.Core.Path.{_≡_, refl, sym, _∙_}
-use mathlib.Core.Bool.{Bool, true, false, not}
+use Prim.Native.Nat.{ℕ, _+_, _≤_, _<_}
+use mathlib.Core.Path.{_≡_}
+use mathlib.Core.Bool.{Bool, true, false}
 use mathlib.Core.List.{List}
 use native.Mathlib.Omega.{arith}
-use borrow.Author.Tests.{ltb-false, leb-false, eqb-false, not-false, le-ltb, lt-leb, eq-eqb, ne-eqb}
+use borrow.Author.Tests.{ltb-false, leb-false, eqb-false, not-false, ne-eqb}
 use lib.Dec.{lit<}
 use lib.ListN.{length}
-use Rattle.laws.specs.Refusals.{None, none-here, none-more, Numbered, numbered-none, numbered-more, none-given, none-only}
+use Rattle.laws.specs.Refusals.{None, none-here, none-more, Numbered, numbered-none, numbered-more, none-only}
 use Rattle.words.specs.declared.part.Order.{Order}
 use Rattle.words.specs.Part.{orderOf, sameAs}
 use Rattle.records.specs.declared.Kind.{Kind}

@@ -1,6 +1,6 @@
 -- The answers of add and set offset and their refusals: what an answer says of the refusal. Assumes nothing.
 use Prim.Native.Nat.{ℕ, _-_}
-use mathlib.Core.Path.{_≡_, refl, sym, ap, _∙_}
+use mathlib.Core.Path.{_≡_, refl, sym, _∙_}
 use mathlib.Core.Bool.{Bool, true, false, cond}
 use mathlib.Core.List.{List}
 use native.Mathlib.Omega.{arith}
@@ -9,9 +9,7 @@ use lib.Dec.{eqb, lit<}
 use Rattle.laws.specs.Refusals.{None, none-here, none-more, Numbered, numbered-none, numbered-more, none-only}
 use Rattle.records.specs.declared.Kind.{Kind}
 use Rattle.builder.specs.declared.PointBuilder.{PointBuilder}
-use Rattle.builder.specs.declared.Added.{Added}
 use Rattle.builder.specs.declared.Added.the-variants as added
-use Rattle.builder.specs.declared.OffsetSet.{OffsetSet}
 use Rattle.builder.specs.declared.OffsetSet.the-variants as offset-set
 use Rattle.builder.specs.State.{fits}
 use Rattle.builder.specs.Add.{addRefusal, nextState, nextPlace, recordOf, appended, addOf, bufferAfterAdd}

@@ -3,15 +3,13 @@
 use Prim.Native.Nat.{ℕ, _+_, _-_, _≤_, _<_}
 use mathlib.Core.Path.{_≡_, refl, sym, ap, _∙_}
 use mathlib.Core.Bool.{Bool, true, false}
-use mathlib.Core.List.{List, [], _∷_, _++_}
+use mathlib.Core.List.{List}
 use native.Mathlib.Omega.{arith}
-use borrow.Author.Tests.{le-ltb, lt-leb, le-leb, eq-eqb, ne-eqb}
-use lib.Dec.{eqb}
+use borrow.Author.Tests.{le-ltb, lt-leb, le-leb, ne-eqb}
 use lib.ListN.{length, drop}
 use lib.Seq.{drop-drop}
-use Rattle.laws.specs.Refusals.{First, here, later, None, none-here, none-more, Numbered, numbered-none, numbered-more, first-given, first-only, none-given, none-only}
+use Rattle.laws.specs.Refusals.{Cause, First, here, later, None, none-here, none-more, Numbered, numbered-more, first-given, first-only, none-given, none-only}
 use Rattle.words.specs.Field.{bytesOf, splice}
-use Rattle.words.specs.Part.{sameAs}
 use Rattle.words.proofs.Laws.{length-bytesOf, length-splice, drop-splice}
 use Rattle.words.proofs.Ordered.{same-self}
 use Rattle.records.specs.declared.Kind.{Kind}
@@ -26,7 +24,7 @@ use Rattle.builder.specs.declared.OffsetSet.{OffsetSet}
 use Rattle.builder.specs.declared.OffsetSet.the-variants as offset-set
 use Rattle.builder.specs.State.{fits, lastOf, roomOf}
 use Rattle.builder.specs.Add.{newCauses, continuedCauses, addCauses, addRefusal, nextState, nextPlace, recordOf, newEntry, appended, addOf, bufferAfterAdd, AddPost}
-use Rattle.builder.specs.SetOffset.{setCauses, setRefusal, setOf, bufferAfterSet, SetPost}
+use Rattle.builder.specs.SetOffset.{setCauses, setOf, bufferAfterSet, SetPost}
 use Rattle.builder.specs.Taken.{Taken}
 use Rattle.builder.proofs.StateLaws.{fits-known}
 use Rattle.builder.proofs.AddLaws.{Sized, Opened, Continued, add-numbered, new-ready, continued-ready}
@@ -35,9 +33,12 @@ use Rattle.builder.proofs.HeldLaws.{ending}
 use Rattle.builder.proofs.TakenTheorems.{taken-last}
 
 -- a number of a row is above 0
-numbers-some : {n : ℕ} {cs : List _} → Numbered cs → First n cs → n ≡ 0 → ⊥
+numbers-some : {n : ℕ} {cs : List Cause} → Numbered cs → First n cs → n ≡ 0 → ⊥
 numbers-some (numbered-more p ns) (here h e) z = omega arith
 numbers-some (numbered-more p ns) (later h f) z = numbers-some ns f z
+
+positive : (n : ℕ) → (n ≡ 0 → ⊥) → 0 < n
+positive n h = omega arith
 
 -- what lies past a part that was put stays
 drop-past : (xs : List ℕ) (at : ℕ) (ys : List ℕ) (n : ℕ) → at + length ys ≤ length xs → at + length ys ≤ n → drop n (splice xs at ys) ≡ drop n xs
@@ -64,9 +65,6 @@ module _ (s : PointBuilder) (buffer key : List ℕ) (kind : Kind) (size sequence
     add-refuses-only {n} e =
         let p = refused-known s buffer key kind size sequence newKey e in
         first-only n (addCauses s (fits s buffer) (lastOf s buffer) (roomOf s buffer) key kind size sequence newKey) (positive n (p .1)) (p .0)
-      where
-        positive : (m : ℕ) → (m ≡ 0 → ⊥) → 0 < m
-        positive m h = omega arith
 
     -- THEOREM: a record is taken where no cause holds, with the next state, the patch place and the next buffer
     pub add-takes : None (addCauses s (fits s buffer) (lastOf s buffer) (roomOf s buffer) key kind size sequence newKey)
@@ -139,9 +137,10 @@ module _ (s : PointBuilder) (buffer key : List ℕ) (kind : Kind) (size sequence
       let fit : s .head + 4 + length count ≤ length buffer = rw c (omega arith) in
       let n : length (splice buffer (s .head + 4) count) ≡ length buffer = length-splice buffer (s .head + 4) count fit in
       let fits-too : s .used + length version ≤ length (splice buffer (s .head + 4) count) = rw (v, n) room in
-      rw (p .1, buffer-taken s buffer key kind size sequence false (p .0))
-      (drop-past (splice buffer (s .head + 4) count) (s .used) version (s .used + 21) fits-too (omega arith) ∙ drop-past buffer (s .head + 4) count (s .used + 21) fit (omega arith),
-      length-splice (splice buffer (s .head + 4) count) (s .used) version fits-too ∙ n)
+      rw (p .1, buffer-taken s buffer key kind size sequence false (p .0)) (
+        drop-past (splice buffer (s .head + 4) count) (s .used) version (s .used + 21) fits-too (omega arith) ∙ drop-past buffer (s .head + 4) count (s .used + 21) fit (omega arith),
+        length-splice (splice buffer (s .head + 4) count) (s .used) version fits-too ∙ n,
+      )
 
 -- THEOREM: the error that started this: to a taken list, a version of the last key whose sequence is not below the last one's is refused
 -- with 4, and nothing changes
@@ -164,9 +163,6 @@ module _ (s : PointBuilder) (buffer : List ℕ) (place offset : ℕ) where
   set-refuses-only {n} e =
       let p = unset-known s buffer place e in
       first-only n (setCauses s buffer place) (positive n (p .1)) (p .0)
-    where
-      positive : (m : ℕ) → (m ≡ 0 → ⊥) → 0 < m
-      positive m h = omega arith
 
   -- THEOREM: the offset is set where no cause holds, at its place
   pub set-takes : None (setCauses s buffer place) → (setOf s buffer place ≡ offset-set.Set) × (bufferAfterSet s buffer place offset ≡ splice buffer place (bytesOf 8 offset))

@@ -1,15 +1,15 @@
 -- The bytes of a table by its last entry: read there, its count raised, a version more, the last offset set. Assumes nothing.
-use Prim.Native.Nat.{ℕ, suc, _+_, _-_, _*_, _^_, _≤_, _<_}
+use Prim.Native.Nat.{ℕ, _+_, _*_}
 use mathlib.Core.Path.{_≡_, refl, sym, ap, _∙_}
 use mathlib.Core.List.{List, [], _∷_, _++_, append-assoc, append-nil}
 use native.Mathlib.Omega.{arith}
 use lib.ListN.{length, take, drop, length-append}
 use lib.Seq.{take-at, drop-at}
-use Rattle.words.specs.Field.{le, bytesOf, splice}
+use Rattle.words.specs.Field.{bytesOf, splice}
 use Rattle.words.proofs.Laws.{length-bytesOf}
 use Rattle.records.specs.declared.Record.{Record}
 use Rattle.records.specs.Model.{Entry, kindByte, versionBytes, versionsBytes, entryBytes, tableBytes}
-use Rattle.records.proofs.WriteLaws.{version-size, versions-size}
+use Rattle.records.proofs.WriteLaws.{versions-size}
 use Rattle.builder.specs.Taken.{withOffset}
 
 -- an entry

@@ -25,6 +25,13 @@ module _ {A : Type 0} {P : A → Type 0} where
   last-each [] x (each-more p each-none) = (each-none, p)
   last-each (y ∷ ys) x (each-more q qs) = let r = last-each ys x qs in (each-more q (r .0), r .1)
 
+  -- where a change of the last keeps what every element has
+  pub each-changed : (f : A → A) → ((x : A) → P x → P (f x)) → (xs : List A) → Each P xs → Each P (onLast f xs)
+  unfolding onLast
+  each-changed f keeps [] each-none = each-none
+  each-changed f keeps (x ∷ []) (each-more p each-none) = each-more (keeps x p) each-none
+  each-changed f keeps (x ∷ y ∷ ys) (each-more p ps) = each-more p (each-changed f keeps (y ∷ ys) ps)
+
 -- a version behind the last one, below it
 pub falls-on : (rs : List Record) (n r : Record) → Falls (rs ++ (n ∷ [])) → r .sequence < n .sequence → Falls ((rs ++ (n ∷ [])) ++ (r ∷ []))
 falls-on [] n r f h = falls-more h falls-one

@@ -1,5 +1,5 @@
 -- A table stays held: by a new key, by a continued key, by a set offset. Assumes nothing.
-use Prim.Native.Nat.{ℕ, _+_, _-_, _*_, _^_, _≤_, _<_}
+use Prim.Native.Nat.{ℕ, _+_, _-_, _^_, _≤_, _<_}
 use mathlib.Core.Path.{_≡_, refl, sym, ap, _∙_}
 use mathlib.Core.Bool.{true, false}
 use mathlib.Core.List.{List, [], _∷_, _++_}
@@ -25,7 +25,7 @@ use Rattle.builder.specs.Add.{withdrawnWithValue, recordOf, newEntry, ne
 use Rattle.builder.specs.Taken.{withOffset}
 use Rattle.builder.proofs.ListLaws.{each-last, last-each, falls-on, falls-last, rises-last}
 use Rattle.builder.proofs.BodyLaws.{entry, table-last, body, body-table, body-more, body-length, body-count, version-offset}
-use Rattle.builder.proofs.HeldLaws.{ending, Standing, entry-rules, read-count, before, behind, before-length}
+use Rattle.builder.proofs.HeldLaws.{Standing, entry-rules, read-count, before, behind, before-length}
 
 -- ---- a record that passed keeps the rules
 
@@ -57,9 +57,9 @@ module _ (s : PointBuilder) (buffer key : List ℕ) (table : List Entry) (r : Re
       let fit : s .used + length (entryBytes (newEntry key r)) ≤ length buffer = rw l room in
       record {
         bytes =
-          ap (λ (n : ℕ). take (s .used + n) (splice buffer (s .used) (entryBytes (newEntry key r)))) (sym l)
-          ∙ take-splice-end buffer (s .used) (entryBytes (newEntry key r)) fit
-          ∙ ap (λ (x : List ℕ). x ++ entryBytes (newEntry key r)) b ∙ sym (table-last table (newEntry key r));
+            ap (λ (n : ℕ). take (s .used + n) (splice buffer (s .used) (entryBytes (newEntry key r)))) (sym l)
+            ∙ take-splice-end buffer (s .used) (entryBytes (newEntry key r)) fit
+            ∙ ap (λ (x : List ℕ). x ++ entryBytes (newEntry key r)) b ∙ sym (table-last table (newEntry key r));
         inside = rw (length-splice buffer (s .used) (entryBytes (newEntry key r)) fit) room;
         headed = sym (length-take-le (s .used) buffer (omega arith)) ∙ ap length b;
         counted = ap (λ (n : ℕ). n + 1) counted;
@@ -121,10 +121,10 @@ module _ (s : PointBuilder) (buffer : List ℕ) (front : List Entry) (key : List
         rw raised-is
         (record {
           bytes =
-            ap (λ (m : ℕ). take (s .used + m) (splice raised (s .used) (versionBytes r))) (sym (version-size r))
-            ∙ take-splice-end raised (s .used) (versionBytes r) fit
-            ∙ ap (λ (x : List ℕ). x ++ versionBytes r) (take-at (body front key vs (length vs + 1)) (drop (s .used) buffer) (s .used) (sym (used-body (length vs + 1))))
-            ∙ sym (body-more front key vs r (length vs + 1)) ∙ ap (body front key (vs ++ (r ∷ []))) (sym n) ∙ sym (body-table front key (vs ++ (r ∷ [])));
+              ap (λ (m : ℕ). take (s .used + m) (splice raised (s .used) (versionBytes r))) (sym (version-size r))
+              ∙ take-splice-end raised (s .used) (versionBytes r) fit
+              ∙ ap (λ (x : List ℕ). x ++ versionBytes r) (take-at (body front key vs (length vs + 1)) (drop (s .used) buffer) (s .used) (sym (used-body (length vs + 1))))
+              ∙ sym (body-more front key vs r (length vs + 1)) ∙ ap (body front key (vs ++ (r ∷ []))) (sym n) ∙ sym (body-table front key (vs ++ (r ∷ [])));
           inside = rw (length-splice raised (s .used) (versionBytes r) fit, raised-length) room;
           headed = st .headed;
           counted = st .counted;
@@ -146,8 +146,8 @@ module _ (s : PointBuilder) (buffer : List ℕ) (front : List Entry) (key : List
           few = rw n (e .few);
           falls = falls-last older newest (withOffset offset newest) refl (e .falls);
           versions =
-            each-last older (withOffset offset newest) (p .0)
-            (record { fits = record { sequence-fits = f .sequence-fits; length-fits = f .length-fits; offset-fits = h }; small = k .small; inside = refl; empty = k .empty });
+              each-last older (withOffset offset newest) (p .0)
+              (record { fits = record { sequence-fits = f .sequence-fits; length-fits = f .length-fits; offset-fits = h }; small = k .small; inside = refl; empty = k .empty });
         }
 
     pub set-stands : (place : ℕ) → place ≡ s .used - 8 → Standing s (splice buffer place (bytesOf 8 offset)) front key older (withOffset offset newest)
@@ -164,9 +164,9 @@ module _ (s : PointBuilder) (buffer : List ℕ) (front : List Entry) (key : List
         length-append b (versionBytes (withOffset offset newest)) ∙ ap (λ (m : ℕ). length b + m) (version-size (withOffset offset newest)) ∙ sym u in
         record {
           bytes =
-            ap (take (s .used)) p ∙ take-at (b ++ versionBytes (withOffset offset newest)) (drop (s .used) buffer) (s .used) l
-            ∙ sym (body-more front key older (withOffset offset newest) (length (older ++ (newest ∷ []))))
-            ∙ ap (body front key (older ++ (withOffset offset newest ∷ []))) (sym n) ∙ sym (body-table front key (older ++ (withOffset offset newest ∷ [])));
+              ap (take (s .used)) p ∙ take-at (b ++ versionBytes (withOffset offset newest)) (drop (s .used) buffer) (s .used) l
+              ∙ sym (body-more front key older (withOffset offset newest) (length (older ++ (newest ∷ []))))
+              ∙ ap (body front key (older ++ (withOffset offset newest ∷ []))) (sym n) ∙ sym (body-table front key (older ++ (withOffset offset newest ∷ [])));
           inside = rw (length-splice buffer place (bytesOf 8 offset) fit) (st .inside);
           headed = st .headed;
           counted = st .counted;

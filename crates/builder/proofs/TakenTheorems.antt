@@ -1,16 +1,15 @@
 -- What a taken list is: its used bytes are its table's bytes, offsets as set; its state fits and counts its keys; the table keeps the rules.
 -- Assumes nothing.
-use Prim.Native.Nat.{ℕ, _+_, _-_, _^_, _≤_, _<_}
-use mathlib.Core.Path.{_≡_, refl, sym, ap, subst, _∙_}
+use Prim.Native.Nat.{ℕ, _+_, _^_, _≤_, _<_}
+use mathlib.Core.Path.{_≡_, refl, sym, ap, _∙_}
 use mathlib.Core.Bool.{Bool, true, false}
 use mathlib.Core.List.{List, [], _∷_, _++_}
 use native.Mathlib.Omega.{arith}
-use lib.ListN.{length, take, getD, length-append}
+use lib.ListN.{length, take, length-append}
 use Rattle.laws.specs.Each.{Each}
-use Rattle.laws.specs.Each.Each.{each-none, each-more}
+use Rattle.laws.specs.Each.Each.{each-none}
 use Rattle.words.specs.declared.part.Order.{Order}
 use Rattle.words.specs.declared.part.Order.the-variants.{Less, Equal, Greater}
-use Rattle.words.specs.Field.{bytesOf, splice}
 use Rattle.words.specs.Part.{orderOf}
 use Rattle.words.proofs.Laws.{AllBytes}
 use Rattle.records.specs.declared.Kind.{Kind}
@@ -18,19 +17,18 @@ use Rattle.records.specs.declared.Record.{Record}
 use Rattle.records.specs.declared.DataLength.the-variants.{Untested}
 use Rattle.records.specs.Model.{Entry, tableBytes, rises-none, rises-one}
 use Rattle.records.specs.Rules.{isLess}
-use Rattle.records.specs.Tables.{RecordRules, TableRules}
+use Rattle.records.specs.Tables.{TableRules}
 use Rattle.builder.specs.declared.PointBuilder.{PointBuilder}
-use Rattle.builder.specs.declared.OffsetSet.the-variants.{Set}
 use Rattle.builder.specs.State.{emptyBuilder, lastOf, fits}
 use Rattle.builder.specs.Add.{rises, recordOf, newEntry, nextState, appended, addRefusal, bufferAfterAdd}
-use Rattle.builder.specs.SetOffset.{setCauses, setRefusal, setOf, bufferAfterSet}
+use Rattle.builder.specs.SetOffset.{setRefusal, bufferAfterSet}
 use Rattle.builder.specs.Taken.{onLast, withVersion, withOffset, withLastOffset, tableAfterAdd, tableAfterSet, Taken, taken-none, taken-added, taken-set}
-use Rattle.builder.proofs.StateLaws.{fits-given, fits-inside}
+use Rattle.builder.proofs.StateLaws.{fits-given}
 use Rattle.builder.proofs.AddLaws.{rises-known, new-passed, continued-passed, new-ready, continued-ready}
 use Rattle.builder.proofs.AnswerLaws.{taken-known, buffer-taken, set-known, set-passed, buffer-set}
-use Rattle.builder.proofs.ListLaws.{last-changed, each-last, rises-on}
+use Rattle.builder.proofs.ListLaws.{last-changed, each-last, each-changed, rises-on}
 use Rattle.builder.proofs.BodyLaws.{entry}
-use Rattle.builder.proofs.HeldLaws.{ending, Standing, read-key, read-count, last-read, keyed, fitting}
+use Rattle.builder.proofs.HeldLaws.{ending, Standing, read-key, last-read, keyed, fitting}
 use Rattle.builder.proofs.StepLaws.{record-rules, new-stands, continued-stands, set-stands}
 
 -- the state and the buffer hold a table: nothing added, or a last record
@@ -122,6 +120,19 @@ held-facts (held-some {s} {buffer} front key older newest st) =
 -- its used bytes are the bytes of its table, its state fits and counts its keys, and its table keeps the rules of keys and versions
 pub taken-facts : {s : PointBuilder} {buffer : List ℕ} {table : List Entry} → Taken s buffer table → TakenFacts s buffer table
 taken-facts t = held-facts (taken-held t)
+
+-- ---- THEOREM: the keys of a taken list are bytes
+
+abbrev pub KeyBytes : Entry → Type 0
+KeyBytes e = AllBytes (e .key)
+
+pub taken-keys : {s : PointBuilder} {buffer : List ℕ} {table : List Entry} → Taken s buffer table → Each KeyBytes table
+unfolding tableAfterAdd tableAfterSet
+taken-keys taken-none = each-none
+taken-keys (taken-added {s} {next} {buffer} {table} {place} key kind size sequence true t b q e) = each-last table (newEntry key (recordOf kind size sequence 0)) (taken-keys t) b
+taken-keys (taken-added {s} {next} {buffer} {table} {place} key kind size sequence false t b q e) =
+    each-changed (withVersion (recordOf kind size sequence 0)) (λ x p. p) table (taken-keys t)
+taken-keys (taken-set {s} {buffer} {table} place offset t h e) = each-changed (withLastOffset offset) (λ x p. p) table (taken-keys t)
 
 -- ---- THEOREM: what the buffer says of the last record is what the list says
 

@@ -20,10 +20,6 @@ use Rattle.construct.proofs.PartsLaws.{part, back, set-inside, set-befo
 pub span : (a n : ℕ) → a + n - a ≡ n
 span a n = omega arith
 
-pub few-buckets : (n : ℕ) → bucketsOf n ≤ n
-unfolding bucketsOf
-few-buckets n = omega arith
-
 -- other words, with the places of the buckets as they were
 pub bench-kept : (h w w′ : List ℕ) (n b : ℕ) → Bench h w n b → length w′ ≡ length w → take (b + 1) w′ ≡ take (b + 1) w → Bench h w′ n b
 bench-kept h w w′ n b B len same = record {
@@ -57,9 +53,6 @@ module _ (h w : List ℕ) (n b : ℕ) (B : Bench h w n b) where
 
   pub bench-buckets : bucketsOf (length (take n h)) ≡ b
   bench-buckets = ap bucketsOf bench-keys ∙ sym (B .count)
-
-  pub bench-low : b ≤ n
-  bench-low = subst (λ (x : ℕ). x ≤ n) (sym (B .count)) (few-buckets n)
 
   module _ (k : ℕ) (l : k < b) where
     low-k : k < bucketsOf (length (take n h))
@@ -194,6 +187,13 @@ module _ (f : ℕ → Placing → Option Placing) (n b : ℕ) (w₀ : List ℕ) 
         no-part : (r : Bool) → r ≡ false → Stepped (f i (placing n b w)) n b w w′ r → f i (placing n b w) ≡ none
         no-part true e g = absurd (false≢true (sym e))
         no-part false e g = g
+
+  -- the same, with the buckets that are left counted down
+  pub left-none : SoFar f (b - b) n b w₀ w₀
+  left-none = subst (λ (i : ℕ). SoFar f i n b w₀ w₀) (omega arith) so-far-none
+
+  pub left-more : (left : ℕ) (w w′ : List ℕ) (r : Bool) → 0 < left → left ≤ b → SoFar f (b - left) n b w₀ w → Stepped (f (b - left) (placing n b w)) n b w w′ r → r ≡ true → length w′ ≡ length w → SoFar f (b - (left - 1)) n b w₀ w′
+  left-more left w w′ r some-left most s g e len = subst (λ (i : ℕ). SoFar f i n b w₀ w′) (omega arith) (so-far-more (b - left) w w′ r s g e len)
 
   pub so-far-all : (i m : ℕ) (w : List ℕ) → i ≡ m → SoFar f i n b w₀ w → Stepped (steps f m (placing n b w₀)) n b w₀ w true
   so-far-all i m w e s = (ap (λ (x : ℕ). steps f x (placing n b w₀)) (sym e) ∙ s .went, s .ends)

@@ -7,36 +7,26 @@ use native.Mathlib.Decide.{ℕ-discrete}
 use native.Mathlib.Numerals.{add-one, lt-of-le-of-ne}
 use lib.ListN.{length, take, set, length-append}
 use lib.Seq.{take-suc-set}
-use Rattle.words.specs.Field.{le}
 use Rattle.mixing.specs.Mixing.{hashOf}
 use Rattle.records.specs.Places.{keyAt, nextEntry, entryPlace}
+use Rattle.records.proofs.PassedLaws.{place-rises, place-next}
 use Rattle.construct.specs.Keys.{keyOf, hashesOf}
-
--- an entry's head lies inside it, and its key behind the head
-pub entry-head : (arena : List ℕ) (p : ℕ) → p + 8 + le 4 arena p ≤ nextEntry arena p
-entry-head arena p = omega arith
 
 -- the entries begin at the start, and each where the last ends
 pub entry-first : (arena : List ℕ) → entryPlace arena 0 0 ≡ 0
 unfolding entryPlace
 entry-first arena = refl
 
-entry-after : (arena : List ℕ) (p i : ℕ) → entryPlace arena p (suc i) ≡ nextEntry arena (entryPlace arena p i)
-unfolding entryPlace
-entry-after arena p zero = refl
-entry-after arena p (suc i) = entry-after arena (nextEntry arena p) i
-
 pub entry-next : (arena : List ℕ) (i : ℕ) → entryPlace arena 0 (i + 1) ≡ nextEntry arena (entryPlace arena 0 i)
-entry-next arena i = ap (entryPlace arena 0) (add-one i) ∙ entry-after arena 0 i
+entry-next arena i = ap (entryPlace arena 0) (add-one i) ∙ place-next arena 0 i
 
--- entries rise
+-- an entry ends where the n-th begins, or before
 pub entry-rises : (arena : List ℕ) (i n : ℕ) → i < n → nextEntry arena (entryPlace arena 0 i) ≤ entryPlace arena 0 n
-entry-rises arena i zero l = absurd (omega arith)
-entry-rises arena i (suc n) l = go (ℕ-discrete i n) (λ lt. entry-rises arena i n lt)
+entry-rises arena i n l = go (ℕ-discrete (suc i) n)
   where
-    go : Dec (i ≡ n) → (i < n → nextEntry arena (entryPlace arena 0 i) ≤ entryPlace arena 0 n) → nextEntry arena (entryPlace arena 0 i) ≤ entryPlace arena 0 (suc n)
-    go (yes e) rest = omega (arith, ap (λ (x : ℕ). nextEntry arena (entryPlace arena 0 x)) e, entry-after arena 0 n)
-    go (no e) rest = omega (arith, rest (lt-of-le-of-ne (omega arith) e), entry-head arena (entryPlace arena 0 n), entry-after arena 0 n)
+    go : Dec (suc i ≡ n) → nextEntry arena (entryPlace arena 0 i) ≤ entryPlace arena 0 n
+    go (yes e) = omega (arith, place-next arena 0 i, ap (entryPlace arena 0) e)
+    go (no e) = omega (arith, place-next arena 0 i, place-rises arena 0 (suc i) n (lt-of-le-of-ne l e))
 
 -- no hashes yet, and one more stored
 pub hashes-none : (seed : ℕ) (arena : List ℕ) → hashesOf seed arena 0 ≡ []

@@ -1,5 +1,5 @@
 pub mod Construct
-pub mod Promised
 pub mod Keys
 pub mod Seating
 pub mod Layout
+pub mod Promised

@@ -8,7 +8,7 @@ use lib.ListN.{length, getD}
 use Rattle.laws.specs.Steps.{least}
 use Rattle.construct.specs.Construct.{tries, seat}
 
--- hashes of some keys, at most 65,536, and members that are such keys
+-- hashes of some keys, fewer than 2^31, and members that are such keys
 pub record Keys (hs ms : List ℕ) : Type 0 where
   pub any : 0 < length hs
   pub most : length hs < 2147483648

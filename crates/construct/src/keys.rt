@@ -1,5 +1,6 @@
 // The keys of an arena, hashed one after another.
-use records::Record;
+use records::cursor::Head;
+use records::cursor::next_entry;
 use words::field;
 ghost use mathlib.Core.Path.{_≡_};
 ghost use Prim.Native.Nat.{_≤_};
@@ -13,19 +14,9 @@ fn hash_at(arena: &[u8], p: usize, seed: u64) -> u64
     requires { ⌜ nextEntry (now arena) p ≤ length (now arena) ⌝ }
     ensures { λ r. ⌜ r ≡ hashOf seed (keyAt (now (arena .entry)) p) ⌝ }
 {
-    let start = p + 8;
+    let start = p + Head::BYTES;
     let end = start + (field::u32_at(arena, p) as usize);
     mixing::hash(&arena[start..end], seed)
-}
-
-// The place after the entry at p.
-fn next_entry(arena: &[u8], p: usize) -> usize
-    requires { ⌜ nextEntry (now arena) p ≤ length (now arena) ⌝ }
-    ensures { λ r. ⌜ r ≡ nextEntry (now (arena .entry)) p ⌝ }
-{
-    let key = field::u32_at(arena, p) as usize;
-    let versions = field::u32_at(arena, p + 4) as usize;
-    p + 8 + key + Record::BYTES * versions
 }
 
 // Hashes the first keys of the arena under a seed, one for each place of `hashes`.

@@ -22,6 +22,9 @@ pub enum Constructed {
 impl Constructed {
     // The seeds that are tried.
     pub const ATTEMPTS: u64 = 8;
+
+    // The keys for which there is one bucket.
+    pub const KEYS_PER_BUCKET: usize = 3;
 }
 
 // Places the first n keys of the arena under the first seed that serves. Where one does, its hashes, pilots and slots are left in the workspace.

@@ -38,18 +38,19 @@ fn place_of(h: &[u64], w: &mut [u32], n: usize, b: usize, k: usize, s: u32) -> b
     place_group(h, w, n, b, k)
 }
 
-// Places the buckets of s members, by rising number.
+// Places the buckets of s members, by lower number first.
 fn place_size(h: &[u64], w: &mut [u32], n: usize, b: usize, s: u32) -> bool
     requires { ⌜ Bench (now h) (now w) n b ⌝ }
     requires { ⌜ 1 < s ⌝ }
     ensures { λ r. ⌜ Stepped (placeSize (take n (now (h .entry))) s (placing n b (now (w .entry)))) n b (now (w .entry)) (now (w .exit)) r ⌝ }
 {
-    let mut k = 0;
-    while k < b {
+    let mut left = b;
+    while 0 < left {
+        let k = b - left;
         if !place_of(h, w, n, b, k, s) {
             return false;
         }
-        k += 1;
+        left -= 1;
     }
     true
 }

@@ -4,7 +4,7 @@ use mathlib.Core.List.{List, [], _∷_}
 use mathlib.Core.Bool.{Bool, not, cond}
 use lib.ListN.{length, take}
 use lib.Dec.{ltb, leb, eqb}
-use Rattle.laws.specs.Refusals.{cause, firstOf, orElse}
+use Rattle.laws.specs.Refusals.{Cause, cause, firstOf, orElse}
 use Rattle.words.specs.Field.{le}
 use Rattle.words.specs.Part.{sameAs}
 use Rattle.mixing.specs.Mixing.{bucketOf, positionOf}
@@ -27,19 +27,24 @@ abbrev pub arenaIn : List ℕ → ℕ
 arenaIn body = le 8 body 24
 
 -- 20 body under 32 bytes or wrong magic
+abbrev pub magicCauses : List ℕ → List Cause
+magicCauses body = cause (ltb (length body) 32) 20 ∷ cause (not (sameAs (take 8 body) magic)) 20 ∷ []
+
 unfoldable pub magicRefusal : List ℕ → ℕ
-magicRefusal body = firstOf (cause (ltb (length body) 32) 20 ∷ cause (not (sameAs (take 8 body) magic)) 20 ∷ [])
+magicRefusal body = firstOf (magicCauses body)
 
 -- 21 dimensions: n from 1 to 2^31 − 1, b, arena start, arena start below the body's length
-unfoldable pub dimensionRefusal : (size n b arena : ℕ) → ℕ
-dimensionRefusal size n b arena =
-    firstOf
-    (cause (eqb n 0) 21
+abbrev pub dimensionCauses : (size n b arena : ℕ) → List Cause
+dimensionCauses size n b arena =
+    cause (eqb n 0) 21
     ∷ cause (leb 2147483648 n) 21
     ∷ cause (not (eqb b ((n + 2) / 3))) 21
     ∷ cause (not (eqb arena (32 + 4 * b + 12 * n))) 21
     ∷ cause (leb size arena) 21
-    ∷ [])
+    ∷ []
+
+unfoldable pub dimensionRefusal : (size n b arena : ℕ) → ℕ
+dimensionRefusal size n b arena = firstOf (dimensionCauses size n b arena)
 
 -- 20 and 21, which validation and get check first
 unfoldable pub headerRefusal : List ℕ → ℕ

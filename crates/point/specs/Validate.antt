@@ -5,7 +5,7 @@ use mathlib.Core.List.{List, [], _∷_}
 use mathlib.Core.Bool.{not, cond}
 use lib.Dec.{eqb}
 use lib.ListN.{length}
-use Rattle.laws.specs.Refusals.{cause, firstOf, orElse}
+use Rattle.laws.specs.Refusals.{Cause, cause, firstOf, orElse}
 use Rattle.mixing.specs.Mixing.{hashOf, fingerprintOf}
 use Rattle.records.specs.declared.DataLength.the-variants.{Of}
 use Rattle.records.specs.Needs.{Walking}
@@ -21,12 +21,14 @@ pilotsRefusal body n i zero = 0
 pilotsRefusal body n i (suc k) = cond (directPast n (pilotAt body i)) 22 (pilotsRefusal body n (suc i) k)
 
 -- 26 slot offset or fingerprint (read as u32) wrong, of a hash h whose key stands at p
-unfoldable pub slotTest : List ℕ → (h p : ℕ) → ℕ
-slotTest body h p =
-    firstOf
-    (cause (not (eqb (recordOffset body (slotPlace body (slotOf body h))) (p - arenaIn body))) 26
+abbrev pub slotCauses : List ℕ → (h p : ℕ) → List Cause
+slotCauses body h p =
+    cause (not (eqb (recordOffset body (slotPlace body (slotOf body h))) (p - arenaIn body))) 26
     ∷ cause (not (eqb (fingerprintWide body (slotPlace body (slotOf body h))) (fingerprintOf h))) 26
-    ∷ [])
+    ∷ []
+
+unfoldable pub slotTest : List ℕ → (h p : ℕ) → ℕ
+slotTest body h p = firstOf (slotCauses body h p)
 
 -- 26 of the key at p
 unfoldable pub slotRefusal : List ℕ → ℕ → ℕ

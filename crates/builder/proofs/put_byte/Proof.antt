@@ -1,5 +1,4 @@
 -- `put_byte` meets its contract: one store is the part of one byte put anew. Assumes nothing.
-use mathlib.Core.Path.{sym}
 use mathlib.Core.List.{[], _∷_}
 use native.Mathlib.Omega.{arith}
 use borrow.Author.Needs.{needs}

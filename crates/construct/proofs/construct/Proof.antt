@@ -43,7 +43,10 @@ returns : tie.Need-returns Inv-loop μ-loop
 unfolding attempts
 returns c =
     let a = c .before .before .before .before .before .attempt in
-    built-placed _ _ _ (c .before .before .before .before .before .before .before .before .before .before .loop .inv .2) _ _ (a .last .1 .0) (a .last .1 .1 .0) (a .result) (c .before .before .before .before .before .before .before .before .before .before .before .buckets .ensures) (c .before .before .before .before .before .before .seed .ensures) (a .ensures) (omega arith) (c .if1 .taken)
+    let buckets = c .before .before .before .before .before .before .before .before .before .before .before .buckets in
+    let loop = c .before .before .before .before .before .before .before .before .before .before .loop in
+    let seed = c .before .before .before .before .before .before .seed in
+    built-placed _ _ _ (loop .inv .2) _ _ (a .last .1 .0) (a .last .1 .1 .0) (a .result) (buckets .ensures) (seed .ensures) (a .ensures) (omega arith) (c .if1 .taken)
 
 add-i : tie.Need-add-i Inv-loop μ-loop
 add-i c = search needs
@@ -55,7 +58,9 @@ loop-again : tie.Need-loop-again Inv-loop μ-loop
 loop-again c =
     let a = c .before .before .before .before .before .attempt in
     let w = c .before .before .before .before .before .before .before .before .before .before .loop .inv in
-    (a .kept .1 .0 ∙ w .0, a .kept .1 .1 .0 ∙ w .1, failed-more _ _ _ (w .2) _ _ (a .last .1 .0) (a .last .1 .1 .0) (a .result) (c .before .before .before .before .before .before .before .before .before .before .before .buckets .ensures) (c .before .before .before .before .before .before .seed .ensures) (a .ensures) (c .if1 .left))
+    let buckets = c .before .before .before .before .before .before .before .before .before .before .before .buckets in
+    let seed = c .before .before .before .before .before .before .seed in
+    (a .kept .1 .0 ∙ w .0, a .kept .1 .1 .0 ∙ w .1, failed-more _ _ _ (w .2) _ _ (a .last .1 .0) (a .last .1 .1 .0) (a .result) (buckets .ensures) (seed .ensures) (a .ensures) (c .if1 .left))
 
 same-length-3 : tie.Need-same-length-3 Inv-loop μ-loop
 same-length-3 c = search needs

@@ -1,6 +1,5 @@
 -- `PointBuilder::fits` answers whether the state and the buffer fit, test by test. Assumes nothing.
 use mathlib.Core.Path.{sym, _∙_}
-use mathlib.Core.Bool.{_&&_, false}
 use native.Mathlib.Omega.{arith}
 use borrow.Author.Needs.{needs}
 use borrow.Author.Tests.{eq-eqb, ne-eqb}

@@ -1,8 +1,7 @@
 -- `PointBuilder::rises` answers whether the key is greater than the last, by the comparison of the two. Assumes nothing.
-use mathlib.Core.Path.{sym, _∙_}
 use native.Mathlib.Omega.{arith}
 use borrow.Author.Needs.{needs}
-use borrow.Author.Tests.{eq-eqb, ne-eqb}
+use borrow.Author.Tests.{eq-eqb}
 use Rattle.words.specs.declared.part.Order.the-variants.{Less, Equal, Greater}
 use Rattle.builder.specs.Add.{rises}
 use Rattle.builder.proofs.StateLaws.{fits-known}

@@ -57,7 +57,8 @@ loop-again : tie.Need-loop-again Inv-loop μ-loop
 loop-again c =
     let w = c .before .before .before .loop .inv in
     let low : c .before .before .before .loop .i < length (c .before .before .before .loop .hashes) = omega arith in
-    (omega arith, simp length-set (w .1), c .next-entry .ensures ∙ ap (nextEntry _) (w .2) ∙ sym (entry-next _ _), hashes-more _ _ _ _ _ _ low (w .2) (c .before .hash-at .ensures) (w .3))
+    let hash-at = c .before .hash-at in
+    (omega arith, simp length-set (w .1), c .next-entry .ensures ∙ ap (nextEntry _) (w .2) ∙ sym (entry-next _ _), hashes-more _ _ _ _ _ _ low (w .2) (hash-at .ensures) (w .3))
 
 same-length : tie.Need-same-length Inv-loop μ-loop
 same-length c = search needs

@@ -29,7 +29,9 @@ same-length c = search needs
 returns : tie.Need-returns Inv-loop μ-loop
 returns c =
     let l = c .before .before .before .before .before .before .loop in
-    down-fails _ _ _ _ _ _ _ (c .before .before .before .place-size .last .1 .0) (c .before .before .before .place-size .result) (l .inv .0) (l .inv .2) (c .before .before .before .place-size .ensures) (c .before .before .before .before .before .loop-test .taken) (not-true (c .before .before .before .place-size .result) (c .if1 .taken))
+    let loop-test = c .before .before .before .before .before .loop-test in
+    let place-size = c .before .before .before .place-size in
+    down-fails _ _ _ _ _ _ _ (place-size .last .1 .0) (place-size .result) (l .inv .0) (l .inv .2) (place-size .ensures) (loop-test .taken) (not-true (place-size .result) (c .if1 .taken))
 
 sub-s : tie.Need-sub-s Inv-loop μ-loop
 sub-s c = search needs
@@ -40,7 +42,9 @@ loop-less c = search needs
 loop-again : tie.Need-loop-again Inv-loop μ-loop
 loop-again c =
     let l = c .before .before .before .before .before .before .loop in
-    (omega arith, omega arith, down-more _ _ _ _ _ _ _ (c .before .before .before .place-size .last .1 .0) (c .before .before .before .place-size .result) (l .inv .0) (l .inv .2) (c .before .before .before .place-size .ensures) (c .before .before .before .before .before .loop-test .taken) (not-false (c .before .before .before .place-size .result) (c .if1 .left)) (c .before .before .before .place-size .kept .1 .0))
+    let loop-test = c .before .before .before .before .before .loop-test in
+    let place-size = c .before .before .before .place-size in
+    (omega arith, omega arith, down-more _ _ _ _ _ _ _ (place-size .last .1 .0) (place-size .result) (l .inv .0) (l .inv .2) (place-size .ensures) (loop-test .taken) (not-false (place-size .result) (c .if1 .left)) (place-size .kept .1 .0))
 
 same-length-2 : tie.Need-same-length-2 Inv-loop μ-loop
 same-length-2 c = search needs

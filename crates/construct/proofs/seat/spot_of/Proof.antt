@@ -19,7 +19,9 @@ returns : tie.Need-returns
 unfolding spot
 returns c =
     let at = c .before .before .before .before .args in
-    (c .position .ensures ∙ ap (λ (x : ℕ). positionOf x (at .pilot) (length (now (at .hs)))) (c .before .hash-of .ensures), subst (λ (x : ℕ). x < length (now (at .hs))) (sym (c .position .ensures)) (positionOf-lt _ _ _ (c .before .before .before .before .pre .0 .any)))
+    let pre = c .before .before .before .before .pre in
+    let hash-of = c .before .hash-of in
+    (c .position .ensures ∙ ap (λ (x : ℕ). positionOf x (at .pilot) (length (now (at .hs)))) (hash-of .ensures), subst (λ (x : ℕ). x < length (now (at .hs))) (sym (c .position .ensures)) (positionOf-lt _ _ _ (pre .0 .any)))
 
 pub spot-of-spec : {M : Type 1} → statement M
 spot-of-spec = tie.close (tie.spec hash-of-requires position-requires returns)

@@ -31,7 +31,11 @@ same-length c = c .before .before .before .single-of .kept .1 .0 ∙ c .before .
 returns : tie.Need-returns Inv-loop μ-loop
 unfolding placeSize
 returns c =
-    so-far-fails _ _ _ _ _ _ (c .before .before .before .single-of .last .1 .0) false (c .before .before .before .before .before .before .loop .inv .2) (c .before .before .before .single-of .ensures .failed (c .if1 .taken)) _ (omega (arith, c .before .before .before .before .before .loop-test .taken, bench-buckets _ _ _ _ (c .before .before .before .before .before .before .before .before .before .pre))) refl
+    let pre = c .before .before .before .before .before .before .before .before .before .pre in
+    let loop = c .before .before .before .before .before .before .loop in
+    let loop-test = c .before .before .before .before .before .loop-test in
+    let single-of = c .before .before .before .single-of in
+    so-far-fails _ _ _ _ _ _ (single-of .last .1 .0) false (loop .inv .2) (single-of .ensures .failed (c .if1 .taken)) _ (omega (arith, loop-test .taken, bench-buckets _ _ _ _ pre)) refl
 
 add-k : tie.Need-add-k Inv-loop μ-loop
 add-k c = search needs
@@ -42,7 +46,9 @@ loop-less c = omega arith
 loop-again : tie.Need-loop-again Inv-loop μ-loop
 loop-again c =
     let e = c .before .before .before .single-of .ensures in
-    (omega arith, c .if1 .left, so-far-more _ _ _ _ _ _ (c .before .before .before .single-of .last .1 .0) true (c .before .before .before .before .before .before .loop .inv .2) (e .went (c .if1 .left)) refl (c .before .before .before .single-of .kept .1 .0), e .taken (c .if1 .left))
+    let loop = c .before .before .before .before .before .before .loop in
+    let single-of = c .before .before .before .single-of in
+    (omega arith, c .if1 .left, so-far-more _ _ _ _ _ _ (single-of .last .1 .0) true (loop .inv .2) (e .went (c .if1 .left)) refl (single-of .kept .1 .0), e .taken (c .if1 .left))
 
 same-length-2 : tie.Need-same-length-2 Inv-loop μ-loop
 same-length-2 c = c .before .loop .inv .2 .long
@@ -50,7 +56,9 @@ same-length-2 c = c .before .loop .inv .2 .long
 returns-2 : tie.Need-returns-2 Inv-loop μ-loop
 unfolding placeSize
 returns-2 c =
-    so-far-all _ _ _ _ _ _ _ (omega (arith, c .loop-test .left, c .before .loop .inv .0, bench-buckets _ _ _ _ (c .before .before .before .before .pre))) (c .before .loop .inv .2)
+    let pre = c .before .before .before .before .pre in
+    let loop = c .before .loop in
+    so-far-all _ _ _ _ _ _ _ (omega (arith, c .loop-test .left, loop .inv .0, bench-buckets _ _ _ _ pre)) (loop .inv .2)
 
 pub place-singles-spec : {M : Type 1} → statement M
 place-singles-spec =

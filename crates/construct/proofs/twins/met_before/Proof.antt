@@ -29,7 +29,10 @@ returns : tie.Need-returns Inv-loop μ-loop
 unfolding met alike
 returns c =
     let l = c .before .before .before .loop in
-    sym (any-hit _ (l .i) _ (c .before .before .loop-test .taken) (eq-eqb _ _ (sym (c .before .hash-of2 .ensures) ∙ c .if1 .taken ∙ c .before .before .before .before .hash-of .ensures)) (l .inv .1))
+    let hash-of = c .before .before .before .before .hash-of in
+    let loop-test = c .before .before .loop-test in
+    let hash-of2 = c .before .hash-of2 in
+    sym (any-hit _ (l .i) _ (loop-test .taken) (eq-eqb _ _ (sym (hash-of2 .ensures) ∙ c .if1 .taken ∙ hash-of .ensures)) (l .inv .1))
 
 add-i : tie.Need-add-i Inv-loop μ-loop
 add-i c = search needs
@@ -41,7 +44,9 @@ loop-again : tie.Need-loop-again Inv-loop μ-loop
 unfolding alike
 loop-again c =
     let l = c .before .before .before .loop in
-    (omega arith, any-miss _ (l .i) (ne-eqb _ _ (λ e. c .if1 .left (c .before .hash-of2 .ensures ∙ e ∙ sym (c .before .before .before .before .hash-of .ensures)))) (l .inv .1))
+    let hash-of = c .before .before .before .before .hash-of in
+    let hash-of2 = c .before .hash-of2 in
+    (omega arith, any-miss _ (l .i) (ne-eqb _ _ (λ e. c .if1 .left (hash-of2 .ensures ∙ e ∙ sym (hash-of .ensures)))) (l .inv .1))
 
 returns-2 : tie.Need-returns-2 Inv-loop μ-loop
 unfolding met

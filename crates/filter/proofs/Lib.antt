@@ -1,0 +1,6 @@
+pub mod ReadLaws
+pub mod AskLaws
+pub mod WriteLaws
+pub mod ExactLaws
+pub mod UniqueLaws
+pub mod Figures

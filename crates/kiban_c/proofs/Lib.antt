@@ -1,0 +1,4 @@
+pub mod BuildLaws
+pub mod FilterCallLaws
+mod ReadingLaws
+pub mod UniqueLaws

@@ -1,0 +1,4 @@
+pub mod Build
+pub mod FilterCalls
+pub mod Lent
+pub mod Reading

@@ -1,0 +1,4 @@
+pub mod SearchLaws
+pub mod RowLaws
+pub mod ExponentLaws
+pub mod SizedLaws
