@@ -1,14 +1,13 @@
 -- What finish makes is accepted: the body of an arena that finish takes passes validation with any data that covers its records, its table is
 -- the arena's table, and get on it is the lookup there. Assumes nothing.
 use Prim.Native.Nat.{ℕ, zero, suc, _+_, _-_, _*_, _/_, _^_, _<_, _≤_}
-use native.Mathlib.Nat.{add-zero, zero-add}
+use native.Mathlib.Nat.{add-zero}
 use native.Mathlib.Omega.{arith}
 use mathlib.Core.Path.{_≡_, refl, sym, ap, ap₂, _∙_, subst}
 use mathlib.Core.Bool.{Bool, true, false, cond}
 use mathlib.Core.List.{List, [], _∷_, _++_, flatMap}
 use mathlib.Core.Option.{Option, none, some}
 use mathlib.Core.Logic.{⊎-elim}
-use lib.Dec.{eqb, leb, ltb}
 use lib.ListN.{length, getD, take, drop, List·getD-append, List·getD-eq-default}
 use lib.Seq.{drop-at, getD-append-add}
 use borrow.Author.Tests.{eq-eqb, ne-eqb, lt-ltb, le-ltb, le-leb, lt-leb}
@@ -20,7 +19,7 @@ use Rattle.words.specs.Field.{bytesOf}
 use Rattle.words.specs.Part.{sameAs}
 use Rattle.words.proofs.Laws.{AllBytes, bytes-bytesOf}
 use Rattle.words.proofs.Ordered.{same-self}
-use Rattle.mixing.specs.Mixing.{hashOf, fingerprintOf, seedOf, bucketOf, positionOf, bucketOf-lt, seedOf-lt}
+use Rattle.mixing.specs.Mixing.{hashOf, fingerprintOf, seedOf, bucketOf, bucketOf-lt, seedOf-lt}
 use Rattle.records.specs.declared.DataLength.the-variants.{Untested, Of}
 use Rattle.records.specs.declared.Limit.{Limit}
 use Rattle.records.specs.declared.Record.{Record}
@@ -31,9 +30,9 @@ use Rattle.records.specs.Tables.{RecordRules, EntryRules, TableRules, InData, E
 use Rattle.records.proofs.PassedLaws.{entries-count, place-rises, walk-ends}
 use Rattle.records.proofs.Theorems.{read-back, read-whole, table-few}
 use Rattle.construct.specs.Construct.{bucketsOf, tries, direct, size, Placing, slotBy, indexOf}
-use Rattle.construct.specs.Keys.{keyOf, hashesOf, attemptHashes}
+use Rattle.construct.specs.Keys.{keyOf, attemptHashes}
 use Rattle.construct.specs.Promised.{Whole, Pilots}
-use Rattle.construct.proofs.KeysLaws.{hashes-long, entry-rises}
+use Rattle.construct.proofs.KeysLaws.{hashes-long}
 use Rattle.construct.proofs.Placed.{few, some-buckets}
 use Rattle.point.specs.declared.Validated.the-variants.{Accepted}
 use Rattle.point.specs.Layout.{magic, seedIn, keysIn, bucketsIn, arenaIn, dimensionRefusal, headerRefusal, pilotAt, directPast, slotNumber, pilotOf, slotOf, slotPlace, recordOffset, fingerprintWide}
@@ -43,12 +42,11 @@ use Rattle.point.specs.Table.{tableOf, keyPlace, keySlot, Belongs, answerTo}
 use Rattle.point.specs.Table as table
 use Rattle.point.proofs.HeaderLaws.{magic-is, header-on, passes}
 use Rattle.point.proofs.Theorems.{accepts, get-is-lookup}
-use Rattle.finish.specs.declared.Finished.{Finished}
 use Rattle.finish.specs.declared.Finished.the-variants.{Body}
 use Rattle.finish.specs.Body.{arenaStart, headerBytes, pilotsBytes, slotBytes, heldSlot, slotsBytes, bodyBytes, placedOf, bodyFrom, bodyOf}
-use Rattle.finish.specs.Finish.{walked, keysOf, unplaced, mismatched, lengthsRefusal, placingRefusal, finishRefusal, answered, bodyLength, finishOf}
+use Rattle.finish.specs.Finish.{walked, keysOf, unplaced, lengthsRefusal, placingRefusal, finishRefusal, answered, bodyLength, finishOf}
 use Rattle.finish.proofs.LengthLaws.{Lengths, lengths}
-use Rattle.finish.proofs.BodyLaws.{body-long, few-buckets, start-is}
+use Rattle.finish.proofs.BodyLaws.{body-long, start-is}
 use Rattle.finish.proofs.FinishLaws.{refused-by, hash-at}
 use Rattle.finish.proofs.SelfCheck.{placed-whole}
 use Rattle.finish.proofs.ShiftLaws.{key-moved, entries-moved, place-moved}

@@ -1,15 +1,14 @@
 -- The parts of a body: their lengths, and the parts written one after another. Assumes nothing.
-use Prim.Native.Nat.{ℕ, suc, _+_, _-_, _*_, _≤_, _<_}
-use native.Mathlib.Nat.{sub-zero}
+use Prim.Native.Nat.{ℕ, _+_, _-_, _*_, _≤_, _<_}
 use native.Mathlib.Decide.{ℕ-discrete}
 use native.Mathlib.Numerals.{lt-of-le-of-ne}
 use native.Mathlib.Omega.{arith}
 use mathlib.Core.Path.{_≡_, refl, sym, ap, ap₂, _∙_, subst}
-use mathlib.Core.List.{List, [], _∷_, _++_, flatMap, append-assoc}
+use mathlib.Core.List.{List, _++_, flatMap, append-assoc}
 use lib.ListN.{length, getD, set, take, drop, length-append, length-drop}
 use lib.Seq.{getD-set-same, getD-set-other, length-take-le}
 use Rattle.words.specs.Field.{bytesOf, splice}
-use Rattle.words.proofs.Laws.{length-bytesOf, length-splice}
+use Rattle.words.proofs.Laws.{length-bytesOf}
 use Rattle.mixing.specs.Mixing.{fingerprintOf}
 use Rattle.records.specs.Places.{nextEntry, entryPlace}
 use Rattle.construct.specs.Construct.{bucketsOf, Placing}

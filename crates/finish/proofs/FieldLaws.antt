@@ -2,10 +2,10 @@
 use Prim.Native.Nat.{ℕ, suc, _+_, _-_, _*_, _/_, _^_, _<_, _≤_}
 use native.Mathlib.Omega.{arith}
 use mathlib.Core.Path.{_≡_, refl, sym, ap, _∙_}
-use mathlib.Core.List.{List, [], _∷_, _++_, flatMap, append-assoc}
+use mathlib.Core.List.{List, _++_, flatMap, append-assoc}
 use lib.ListN.{length, getD, take, drop, length-append}
-use lib.Seq.{split-at, length-take-le, take-at, drop-at}
-use Rattle.words.specs.Field.{le, bytesOf}
+use lib.Seq.{length-take-le}
+use Rattle.words.specs.Field.{bytesOf}
 use Rattle.words.proofs.Laws.{length-bytesOf, bytesOf-append}
 use Rattle.words.proofs.WrittenLaws.{le-written}
 use Rattle.mixing.specs.Mixing.{hashOf, fingerprintOf, fingerprintOf-lt}
@@ -23,45 +23,46 @@ wide-print v h =
     let z : v / 256 ^ 2 ≡ 0 = omega arith in
     bytesOf-append 2 2 v ∙ ap (λ (x : ℕ). bytesOf 2 v ++ bytesOf 2 x) z
 
--- the number of slot s, read and written
+-- the body of n keys under a seed and a placing
 module _ (arena : List ℕ) (n seed : ℕ) (pl : Placing) (most : n ≤ 65536) where
-  front : List ℕ
-  front = pilotsBytes (pl .pilots) ++ (slotsBytes arena seed (pl .slots) ++ arena)
+  -- what follows the header
+  rest : List ℕ
+  rest = pilotsBytes (pl .pilots) ++ (slotsBytes arena seed (pl .slots) ++ arena)
 
   pub magic-read : take 8 (bodyBytes arena n seed pl) ≡ magic
   unfolding bodyBytes headerBytes
   magic-read = refl
 
   pub seed-read : seed < 2 ^ 64 → seedIn (bodyBytes arena n seed pl) ≡ seed
-  unfolding bodyBytes headerBytes front
-  seed-read h = le-written 8 seed 8 (bodyBytes arena n seed pl) magic (bytesOf 4 n ++ (bytesOf 4 (bucketsOf n) ++ (bytesOf 8 (arenaStart n) ++ front))) h refl (simp append-assoc)
+  unfolding bodyBytes headerBytes rest
+  seed-read h = le-written 8 seed 8 (bodyBytes arena n seed pl) magic (bytesOf 4 n ++ (bytesOf 4 (bucketsOf n) ++ (bytesOf 8 (arenaStart n) ++ rest))) h refl (simp append-assoc)
 
   pub keys-read : keysIn (bodyBytes arena n seed pl) ≡ n
-  unfolding bodyBytes headerBytes front
+  unfolding bodyBytes headerBytes rest
   keys-read =
-      le-written 4 n 16 (bodyBytes arena n seed pl) (magic ++ bytesOf 8 seed) (bytesOf 4 (bucketsOf n) ++ (bytesOf 8 (arenaStart n) ++ front)) (omega arith)
+      le-written 4 n 16 (bodyBytes arena n seed pl) (magic ++ bytesOf 8 seed) (bytesOf 4 (bucketsOf n) ++ (bytesOf 8 (arenaStart n) ++ rest)) (omega arith)
       (simp (length-append, length-bytesOf)) (simp append-assoc)
 
   pub buckets-read : bucketsIn (bodyBytes arena n seed pl) ≡ bucketsOf n
-  unfolding bodyBytes headerBytes front
+  unfolding bodyBytes headerBytes rest
   buckets-read =
-      le-written 4 (bucketsOf n) 20 (bodyBytes arena n seed pl) (magic ++ (bytesOf 8 seed ++ bytesOf 4 n)) (bytesOf 8 (arenaStart n) ++ front) (omega (arith, few-buckets n))
+      le-written 4 (bucketsOf n) 20 (bodyBytes arena n seed pl) (magic ++ (bytesOf 8 seed ++ bytesOf 4 n)) (bytesOf 8 (arenaStart n) ++ rest) (omega (arith, few-buckets n))
       (simp (length-append, length-bytesOf)) (simp append-assoc)
 
   pub start-read : arenaIn (bodyBytes arena n seed pl) ≡ arenaStart n
-  unfolding bodyBytes headerBytes front
+  unfolding bodyBytes headerBytes rest
   start-read =
-      le-written 8 (arenaStart n) 24 (bodyBytes arena n seed pl) (magic ++ (bytesOf 8 seed ++ (bytesOf 4 n ++ bytesOf 4 (bucketsOf n)))) front (omega (arith, few-buckets n, start-is n (bucketsOf n) refl))
+      le-written 8 (arenaStart n) 24 (bodyBytes arena n seed pl) (magic ++ (bytesOf 8 seed ++ (bytesOf 4 n ++ bytesOf 4 (bucketsOf n)))) rest (omega (arith, few-buckets n, start-is n (bucketsOf n) refl))
       (simp (length-append, length-bytesOf)) (simp append-assoc)
 
   pub pilot-read : (k : ℕ) → k < length (pl .pilots) → getD (pl .pilots) k 0 < 2 ^ 32 → pilotAt (bodyBytes arena n seed pl) k ≡ getD (pl .pilots) k 0
   unfolding bodyBytes pilotsBytes
   pilot-read k l h =
       let ps = pl .pilots in
-      let rest = slotsBytes arena seed (pl .slots) ++ arena in
-      le-written 4 (getD ps k 0) (32 + 4 * k) (bodyBytes arena n seed pl) (headerBytes seed n ++ flatMap (bytesOf 4) (take k ps)) (flatMap (bytesOf 4) (drop (suc k) ps) ++ rest) h
+      let after = slotsBytes arena seed (pl .slots) ++ arena in
+      le-written 4 (getD ps k 0) (32 + 4 * k) (bodyBytes arena n seed pl) (headerBytes seed n ++ flatMap (bytesOf 4) (take k ps)) (flatMap (bytesOf 4) (drop (suc k) ps) ++ after) h
       (length-append (headerBytes seed n) (flatMap (bytesOf 4) (take k ps)) ∙ omega (arith, header-long seed n, flat-long (bytesOf 4) 4 (length-bytesOf 4) (take k ps), length-take-le k ps (omega arith)))
-      (ap (λ (z : List ℕ). headerBytes seed n ++ (z ++ rest)) (flat-split (bytesOf 4) ps k l) ∙ simp append-assoc)
+      (ap (λ (z : List ℕ). headerBytes seed n ++ (z ++ after)) (flat-split (bytesOf 4) ps k l) ∙ simp append-assoc)
 
   module _ (np : length (pl .pilots) ≡ bucketsOf n) (s : ℕ) (l : s < length (pl .slots)) where
     held : ℕ

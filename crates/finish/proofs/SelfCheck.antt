@@ -1,16 +1,15 @@
 -- The self-check never fails: where an attempt succeeds, every slot is filled by a key whose index it is. Assumes nothing.
-use Prim.Native.Nat.{ℕ, suc, _+_, _-_, _<_}
+use Prim.Native.Nat.{ℕ, suc, _-_, _<_}
 use native.Mathlib.Omega.{arith}
 use mathlib.Core.Path.{_≡_, refl, sym, ap, _∙_, subst}
-use mathlib.Core.Bool.{Bool, true, false, not, _||_, false≢true}
+use mathlib.Core.Bool.{Bool, true, false, false≢true}
 use mathlib.Core.List.{List}
 use mathlib.Core.Option.{some}
-use lib.Dec.{eqb, ltb}
 use lib.ListN.{length, getD}
 use borrow.Author.Tests.{le-ltb, eq-eqb, ne-eqb}
 use Rattle.laws.specs.Steps.{anyBelow, any-why}
-use Rattle.construct.specs.Construct.{Placing, constructOf, indexOf}
-use Rattle.construct.specs.Keys.{hashesOf, attemptHashes}
+use Rattle.construct.specs.Construct.{Placing, indexOf}
+use Rattle.construct.specs.Keys.{attemptHashes}
 use Rattle.construct.specs.Promised.{Whole, Pilots}
 use Rattle.construct.proofs.KeysLaws.{hashes-long}
 use Rattle.construct.proofs.Exhausting.{taken-whole}

@@ -1,16 +1,16 @@
 -- An arena behind a front is read as it is alone, every place moved by the front's length. Assumes nothing.
-use Prim.Native.Nat.{ℕ, zero, suc, _+_, _*_}
+use Prim.Native.Nat.{ℕ, zero, suc, _+_}
 use native.Mathlib.Nat.{add-assoc}
 use native.Mathlib.Omega.{arith}
-use mathlib.Core.Path.{_≡_, refl, sym, ap, ap₂, _∙_}
-use mathlib.Core.List.{List, [], _∷_, _++_}
+use mathlib.Core.Path.{_≡_, refl, ap, ap₂, _∙_}
+use mathlib.Core.List.{List, _∷_, _++_}
 use lib.ListN.{length, getD, take, drop}
 use lib.Seq.{drop-append-add, getD-append-add}
 use Rattle.words.specs.Field.{le}
 use Rattle.words.proofs.Laws.{le-append-right}
 use Rattle.records.specs.declared.Record.{Record}
 use Rattle.records.specs.Model.{Entry}
-use Rattle.records.specs.Places.{keyLength, versionCount, keyAt, firstVersion, nextEntry, kindOf, recordAt, versionsFrom, entryAt, entriesFrom, entryPlace}
+use Rattle.records.specs.Places.{keyLength, versionCount, keyAt, firstVersion, nextEntry, recordAt, versionsFrom, entryAt, entriesFrom, entryPlace}
 
 module _ (ys xs : List ℕ) where
   -- a number at a place of the arena

@@ -2,7 +2,6 @@
 use Prim.Native.Nat.{ℕ, _+_, _-_, _*_}
 use mathlib.Core.List.{List, [], _++_, flatMap}
 use mathlib.Core.Option.{Option, none, some}
-use lib.ListN.{length}
 use Rattle.words.specs.Field.{bytesOf}
 use Rattle.mixing.specs.Mixing.{hashOf, fingerprintOf, seedOf}
 use Rattle.records.specs.Places.{entryPlace}

@@ -7,7 +7,7 @@ use mathlib.Core.Option.{some}
 use lib.Dec.{eqb}
 use lib.ListN.{length, getD, take}
 use Rattle.words.specs.Field.{splice}
-use Rattle.mixing.specs.Mixing.{hashOf, fingerprintOf, seedOf}
+use Rattle.mixing.specs.Mixing.{hashOf, fingerprintOf}
 use Rattle.records.specs.Places.{entryPlace}
 use Rattle.construct.specs.Construct.{bucketsOf}
 use Rattle.construct.specs.Keys.{keyOf, attemptHashes, Entries}

@@ -8,8 +8,6 @@ use records::DataLength;
 use records::walk::walk;
 use words::part;
 ghost use mathlib.Core.Path.{_≡_};
-ghost use Prim.Native.Nat.{_≤_};
-ghost use lib.ListN.{length};
 ghost use Rattle.finish.specs.Finish.{lengthRefusal, FinishPost};
 ghost use Rattle.finish.specs.Needs.{Room, Chosen, Built};
 

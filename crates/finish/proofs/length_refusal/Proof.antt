@@ -4,55 +4,40 @@ use borrow.Author.Needs.{needs}
 use Rattle.finish.proofs.LengthLaws.{length-broken, length-empty, length-many, length-wide, length-narrow, length-out, length-fits}
 use Rattle.finish.proofs.length_refusal.Statement.{statement}
 use Rattle.finish.proofs.length_refusal.Tie as tie
-use Rattle.finish.proofs.length_refusal.Reads as reads
-use Rattle.finish.proofs.length_refusal.Lts as lts
-use Rattle.finish.proofs.body.arena_start.Reads as arena-start-reads
 
--- src/lib.rt:32:9
 returns : tie.Need-returns
 returns c = length-broken _ _ _ _ _ _ (λ z. omega arith)
 
--- src/lib.rt:35:9
 returns-2 : tie.Need-returns-2
 returns-2 c = length-empty _ _ _ _ _ _ (omega arith) (omega arith)
 
--- src/lib.rt:38:9
 returns-3 : tie.Need-returns-3
 returns-3 c = length-many _ _ _ _ _ _ (omega arith) (λ z. omega arith) (omega arith)
 
--- src/lib.rt:40:15
 mul-if4 : tie.Need-mul-if4
 mul-if4 c = search needs
 
--- src/lib.rt:41:9
 returns-4 : tie.Need-returns-4
 returns-4 c = length-wide _ _ _ _ _ _ (omega arith) (λ z. omega arith) (omega arith) (omega arith)
 
--- src/lib.rt:43:17
 mul-if5 : tie.Need-mul-if5
 mul-if5 c = search needs
 
--- src/lib.rt:43:17
 add-if5 : tie.Need-add-if5
 add-if5 c = search needs
 
--- src/lib.rt:44:9
 returns-5 : tie.Need-returns-5
 returns-5 c = length-narrow _ _ _ _ _ _ (omega arith) (λ z. omega arith) (omega arith) (omega arith) (omega arith)
 
--- src/lib.rt:47:9
 returns-6 : tie.Need-returns-6
 returns-6 c = length-out _ _ _ _ _ _ (omega arith) (λ z. omega arith) (omega arith) (omega arith) (omega arith) (omega arith)
 
--- src/lib.rt:49:21
 arena-start-requires : tie.Need-arena-start-requires
 arena-start-requires c κs = search needs
 
--- src/lib.rt:50:9
 returns-7 : tie.Need-returns-7
 returns-7 c = length-out _ _ _ _ _ _ (omega arith) (λ z. omega arith) (omega arith) (omega arith) (omega arith) (omega arith)
 
--- src/lib.rt:28:1
 returns-8 : tie.Need-returns-8
 returns-8 c = length-fits _ _ _ _ _ _ (omega arith) (λ z. omega arith) (omega arith) (omega arith) (omega arith) (omega arith)
 

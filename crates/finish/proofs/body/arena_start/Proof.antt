@@ -5,34 +5,25 @@ use Rattle.construct.specs.Construct.{bucketsOf}
 use Rattle.finish.specs.Body.{arenaStart}
 use Rattle.finish.proofs.body.arena_start.Statement.{statement}
 use Rattle.finish.proofs.body.arena_start.Tie as tie
-use Rattle.finish.proofs.body.arena_start.Reads as reads
-use Rattle.finish.proofs.body.arena_start.Lts as lts
-use Rattle.construct.proofs.group.buckets.Reads as buckets-reads
 
--- src/body.rt:23:25
 buckets-requires : tie.Need-buckets-requires
 buckets-requires c κs = search needs
 
--- src/body.rt:23:21
 mul-result : tie.Need-mul-result
 unfolding bucketsOf
 mul-result c = search needs
 
--- src/body.rt:23:5
 add-result : tie.Need-add-result
 unfolding bucketsOf
 add-result c = search needs
 
--- src/body.rt:23:38
 mul-result-2 : tie.Need-mul-result-2
 mul-result-2 c = search needs
 
--- src/body.rt:23:5
 add-result-2 : tie.Need-add-result-2
 unfolding bucketsOf
 add-result-2 c = search needs
 
--- src/body.rt:19:1
 returns : tie.Need-returns
 unfolding arenaStart
 returns c = omega arith

@@ -10,9 +10,6 @@ use Rattle.finish.specs.Finish.{unmatchedAt, mismatch}
 use Rattle.finish.proofs.CheckLaws.{unmatched-at}
 use Rattle.finish.proofs.check.mismatch.Statement.{statement}
 use Rattle.finish.proofs.check.mismatch.Tie as tie
-use Rattle.finish.proofs.check.mismatch.Reads as reads
-use Rattle.finish.proofs.check.mismatch.Lts as lts
-use Rattle.finish.proofs.check.unmatched.Reads as unmatched-reads
 
 abbrev Inv-loop : tie.InvT-loop
 Inv-loop hs pilots slots n s₀ s = (n ≡ length slots) × (s ≤ n) × (anyBelow (unmatchedAt hs pilots slots) s ≡ false)
@@ -20,44 +17,35 @@ Inv-loop hs pilots slots n s₀ s = (n ≡ length slots) × (s ≤ n) × (anyBel
 abbrev μ-loop : tie.MeasureT-loop
 μ-loop hs pilots slots n s₀ s = n - s
 
--- src/check.rt:30:5
 loop-holds : tie.Need-loop-holds Inv-loop μ-loop
 loop-holds c = (refl, omega arith, any-none _)
 
--- src/check.rt:31:40
 mul-unmatched : tie.Need-mul-unmatched Inv-loop μ-loop
 mul-unmatched c = search needs
 
--- src/check.rt:31:40
 shared-slice-read-unmatched : tie.Need-shared-slice-read-unmatched Inv-loop μ-loop
 shared-slice-read-unmatched c = search needs
 
--- src/check.rt:31:12
 unmatched-requires : tie.Need-unmatched-requires Inv-loop μ-loop
 unmatched-requires c κs = search needs
 
--- src/check.rt:32:13
 returns : tie.Need-returns Inv-loop μ-loop
 unfolding mismatch
 returns c =
     let l = c .before .before .before .before .loop in
     sym (any-hit _ (l .s) _ (omega arith) (unmatched-at _ _ _ _ _ _ (l .inv .0) (c .before .unmatched .ensures) ∙ c .if1 .taken) (l .inv .2))
 
--- src/check.rt:34:9
 add-s : tie.Need-add-s Inv-loop μ-loop
 add-s c = search needs
 
--- src/check.rt:30:5
 loop-less : tie.Need-loop-less Inv-loop μ-loop
 loop-less c = search needs
 
--- src/check.rt:30:5
 loop-again : tie.Need-loop-again Inv-loop μ-loop
 loop-again c =
     let l = c .before .before .before .before .loop in
     (l .inv .0, omega arith, any-miss _ (l .s) (unmatched-at _ _ _ _ _ _ (l .inv .0) (c .before .unmatched .ensures) ∙ c .if1 .left) (l .inv .2))
 
--- src/check.rt:24:1
 returns-2 : tie.Need-returns-2 Inv-loop μ-loop
 unfolding mismatch
 returns-2 c =

@@ -4,35 +4,25 @@ use borrow.Author.Needs.{needs}
 use Rattle.finish.proofs.CheckLaws.{unmatched-free, unmatched-past, unmatched-by}
 use Rattle.finish.proofs.check.unmatched.Statement.{statement}
 use Rattle.finish.proofs.check.unmatched.Tie as tie
-use Rattle.finish.proofs.check.unmatched.Reads as reads
-use Rattle.finish.proofs.check.unmatched.Lts as lts
-use Rattle.construct.proofs.pilot.index.Reads as index-reads
 
--- src/check.rt:15:9
 returns : tie.Need-returns
 returns c = unmatched-free _ _ _ _ _ (c .if1 .taken)
 
--- src/check.rt:18:9
 returns-2 : tie.Need-returns-2
 returns-2 c = unmatched-past _ _ _ _ _ (λ z. omega arith) (c .if2 .taken)
 
--- src/check.rt:20:21
 sub-index : tie.Need-sub-index
 sub-index c = search needs
 
--- src/check.rt:20:18
 mul-index : tie.Need-mul-index
 mul-index c = search needs
 
--- src/check.rt:20:18
 shared-slice-read-index : tie.Need-shared-slice-read-index
 shared-slice-read-index c = search needs
 
--- src/check.rt:20:5
 index-requires : tie.Need-index-requires
 index-requires c κs = search needs
 
--- src/check.rt:9:1
 returns-3 : tie.Need-returns-3
 returns-3 c = unmatched-by _ _ _ _ _ (λ z. omega arith) (omega arith) _ (c .index .ensures)
 
