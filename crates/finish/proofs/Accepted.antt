@@ -1,0 +1,393 @@
+-- What finish makes is accepted: the body of an arena that finish takes passes validation with any data that covers its records, its table is
+-- the arena's table, and get on it is the lookup there. Assumes nothing.
+use Prim.Native.Nat.{ℕ, zero, suc, _+_, _-_, _*_, _/_, _^_, _<_, _≤_}
+use native.Mathlib.Nat.{add-zero}
+use native.Mathlib.Omega.{arith}
+use mathlib.Core.Path.{_≡_, refl, sym, ap, ap₂, _∙_, subst}
+use mathlib.Core.Bool.{Bool, true, false, cond}
+use mathlib.Core.List.{List, [], _∷_, _++_, flatMap}
+use mathlib.Core.Option.{Option, none, some}
+use mathlib.Core.Logic.{⊎-elim}
+use lib.ListN.{length, getD, take, drop, List·getD-append, List·getD-eq-default}
+use lib.Seq.{drop-at, getD-append-add}
+use borrow.Author.Tests.{eq-eqb, ne-eqb, lt-ltb, le-ltb, le-leb, lt-leb}
+use Rattle.laws.specs.Cases.{lt-or-ge}
+use Rattle.laws.specs.Each.{Each}
+use Rattle.laws.specs.Each.Each.{each-none, each-more}
+use Rattle.laws.specs.RefusalLaws.{orElse-zero}
+use Rattle.words.specs.Field.{bytesOf}
+use Rattle.words.specs.Part.{sameAs}
+use Rattle.words.proofs.Laws.{AllBytes, bytes-bytesOf}
+use Rattle.words.proofs.Ordered.{same-self}
+use Rattle.mixing.specs.Mixing.{hashOf, fingerprintOf, seedOf, bucketOf, bucketOf-lt, seedOf-lt}
+use Rattle.records.specs.declared.DataLength.the-variants.{Untested, Of}
+use Rattle.records.specs.declared.Limit.{Limit}
+use Rattle.records.specs.declared.Record.{Record}
+use Rattle.records.specs.Model.{Entry, tableBytes, lookup}
+use Rattle.records.specs.Places.{keyAt, entriesFrom, entryPlace}
+use Rattle.records.specs.Rules.{unslotted}
+use Rattle.records.specs.Tables.{RecordRules, EntryRules, TableRules, InData, EntryInData, TableInData}
+use Rattle.records.proofs.PassedLaws.{entries-count, place-rises, walk-ends}
+use Rattle.records.proofs.Theorems.{read-back, read-whole, table-few}
+use Rattle.construct.specs.Construct.{bucketsOf, tries, direct, size, Placing, slotBy, indexOf}
+use Rattle.construct.specs.Keys.{keyOf, attemptHashes}
+use Rattle.construct.specs.Promised.{Whole, Pilots}
+use Rattle.construct.proofs.KeysLaws.{hashes-long}
+use Rattle.construct.proofs.Placed.{few, some-buckets}
+use Rattle.point.specs.declared.Validated.the-variants.{Accepted}
+use Rattle.point.specs.Layout.{magic, seedIn, keysIn, bucketsIn, arenaIn, dimensionRefusal, headerRefusal, pilotAt, directPast, slotNumber, pilotOf, slotOf, slotPlace, recordOffset, fingerprintWide}
+use Rattle.point.specs.Validate.{pilotsRefusal, validateOf}
+use Rattle.point.specs.Get.{getOf}
+use Rattle.point.specs.Table.{tableOf, keyPlace, keySlot, Belongs, answerTo}
+use Rattle.point.specs.Table as table
+use Rattle.point.proofs.HeaderLaws.{magic-is, header-on, passes}
+use Rattle.point.proofs.Theorems.{accepts, get-is-lookup}
+use Rattle.finish.specs.declared.Finished.the-variants.{Body}
+use Rattle.finish.specs.Body.{arenaStart, headerBytes, pilotsBytes, slotBytes, heldSlot, slotsBytes, bodyBytes, placedOf, bodyFrom, bodyOf}
+use Rattle.finish.specs.Finish.{walked, keysOf, unplaced, lengthsRefusal, placingRefusal, finishRefusal, answered, bodyLength, finishOf}
+use Rattle.finish.proofs.LengthLaws.{Lengths, lengths}
+use Rattle.finish.proofs.BodyLaws.{body-long, start-is}
+use Rattle.finish.proofs.FinishLaws.{refused-by, hash-at}
+use Rattle.finish.proofs.SelfCheck.{placed-whole}
+use Rattle.finish.proofs.ShiftLaws.{key-moved, entries-moved, place-moved}
+use Rattle.finish.proofs.FieldLaws.{magic-read, seed-read, keys-read, buckets-read, start-read, pilot-read, offset-read, print-read, before-arena}
+
+-- ---- an arena that finish takes
+
+pub record Made (arena : List ℕ) (out : ℕ) : Type 0 where
+  pub attempt : ℕ
+  pub placing : Placing
+  pub taken : placedOf arena (keysOf arena) ≡ some (attempt, placing)
+  pub whole : walked arena .end ≡ length arena
+  pub any : 0 < keysOf arena
+  pub most : keysOf arena ≤ 65536
+  pub room : arenaStart (keysOf arena) + length arena ≤ out
+
+module _ (arena : List ℕ) (out wide narrow k : ℕ) where
+  -- a body is answered where nothing refuses, with its length
+  pub body-answered : finishOf arena out wide narrow ≡ Body k → (finishRefusal arena out wide narrow ≡ 0) × (k ≡ bodyLength arena (keysOf arena))
+  unfolding finishOf
+  body-answered e = go (finishRefusal arena out wide narrow) e
+    where
+      go : (r : ℕ) → answered r (bodyLength arena (keysOf arena)) ≡ Body k → (r ≡ 0) × (k ≡ bodyLength arena (keysOf arena))
+      go zero q = (refl, let z : bodyLength arena (keysOf arena) ≡ k = cc in sym z)
+      go (suc r) q = absurd (let z : _≡_ {A = ℕ} 0 1 = cc in omega arith)
+
+  pub made : finishOf arena out wide narrow ≡ Body k → Made arena out
+  unfolding placingRefusal
+  made e = go (placedOf arena (keysOf arena)) refl (passes (unplaced (placedOf arena (keysOf arena))) 9 _ (both .1) .0)
+    where
+      both : (lengthsRefusal arena out wide narrow ≡ 0) × (placingRefusal arena (keysOf arena) ≡ 0)
+      both = orElse-zero _ _ (sym (refused-by arena out wide narrow) ∙ body-answered e .0)
+
+      L : Lengths (length arena) (walked arena .end) (keysOf arena) out wide narrow
+      L = lengths (length arena) (walked arena .end) (keysOf arena) out wide narrow (both .0)
+
+      go : (o : Option (ℕ × Placing)) → placedOf arena (keysOf arena) ≡ o → unplaced o ≡ false → Made arena out
+      go none q z = absurd (let t : _≡_ {A = ℕ} 0 1 = cc in omega arith)
+      go (some (i, pl)) q z = record { attempt = i; placing = pl; taken = q; whole = L .whole; any = L .some; most = L .few; room = L .room }
+
+-- ---- the rules, with a data length
+
+each-two : {A : Type 0} {P Q R : A → Type 0} → ((x : A) → P x → Q x → R x) → (xs : List A) → Each P xs → Each Q xs → Each R xs
+each-two f [] each-none each-none = each-none
+each-two f (x ∷ xs) (each-more p ps) (each-more q qs) = each-more (f x p q) (each-two f xs ps qs)
+
+record-in : (n : ℕ) (r : Record) → RecordRules Untested r → InData n r → RecordRules (Of n) r
+record-in n r u h = record { fits = u .fits; small = u .small; inside = le-ltb n (r .offset + r .length) h; empty = u .empty }
+
+entry-in : (n : ℕ) (e : Entry) → EntryRules Untested e → EntryInData n e → EntryRules (Of n) e
+entry-in n e u h = record { small = u .small; some = u .some; few = u .few; falls = u .falls; versions = each-two (record-in n) (e .versions) (u .versions) h }
+
+pub table-in : (n : ℕ) (t : List Entry) → TableRules Untested t → TableInData n t → TableRules (Of n) t
+table-in n t u h = record { entries = each-two (entry-in n) t (u .entries) h; rises = u .rises }
+
+-- ---- header and pilots
+
+dimensions-fine : (total n b start : ℕ) → 0 < n → n < 2147483648 → b ≡ (n + 2) / 3 → start ≡ 32 + 4 * b + 12 * n → start < total → 0 ≡ dimensionRefusal total n b start
+unfolding dimensionRefusal
+dimensions-fine total n b start h1 h2 e1 e2 h3 =
+    let ne : n ≡ 0 → ⊥ = λ z. omega arith in
+    rw (ne-eqb n 0 ne, lt-leb 2147483648 n h2, eq-eqb b ((n + 2) / 3) e1, eq-eqb start (32 + 4 * b + 12 * n) e2, lt-leb total start h3)
+
+pilots-fine : (body : List ℕ) (n i k : ℕ) → ((j : ℕ) → j < i + k → directPast n (pilotAt body j) ≡ false) → pilotsRefusal body n i k ≡ 0
+unfolding pilotsRefusal
+pilots-fine body n i zero h = refl
+pilots-fine body n i (suc k) h = ap (λ (t : Bool). cond t 22 (pilotsRefusal body n (suc i) k)) (h i (omega arith)) ∙ pilots-fine body n (suc i) k (λ j l. h j (omega arith))
+
+-- the slot that a pilot gives, in both words
+slot-same : (n v h : ℕ) → slotNumber n v h ≡ slotBy h v n
+unfolding slotNumber slotBy direct
+slot-same n v h =
+    ⊎-elim (λ (l : v < 2147483648). rw (lt-leb 2147483648 v l, lt-ltb v 2147483648 l))
+    (λ (l : 2147483648 ≤ v). rw (le-leb 2147483648 v l, le-ltb v 2147483648 l))
+    (lt-or-ge v 2147483648)
+
+-- every pilot of an attempt is below 2^31 + n
+pilot-low : (hs pilots : List ℕ) → Pilots hs pilots → (k : ℕ) → k < bucketsOf (length hs) → getD pilots k 0 < 2147483648 + length hs
+unfolding direct tries
+pilot-low hs pilots P k l = go (size hs k) refl
+  where
+    go : (x : ℕ) → size hs k ≡ x → getD pilots k 0 < 2147483648 + length hs
+    go zero e = omega (arith, P .empty k l e)
+    go (suc zero) e = let s = P .single k l e in omega (arith, s .named, s .low)
+    go (suc (suc y)) e = let s = P .several k l (omega arith) in omega (arith, s .tried)
+
+-- ---- bytes
+
+bytes-append : (xs ys : List ℕ) → AllBytes xs → AllBytes ys → AllBytes (xs ++ ys)
+bytes-append xs ys a b i =
+    ⊎-elim (λ (l : i < length xs). rw (List·getD-append xs ys 0 i l) (a i))
+    (λ (l : length xs ≤ i).
+    let e : i ≡ length xs + (i - length xs) = omega arith in
+    subst (λ (x : ℕ). getD (xs ++ ys) x 0 < 256) (sym e) (rw (getD-append-add xs ys (i - length xs) 0) (b (i - length xs))))
+    (lt-or-ge i (length xs))
+
+-- a list of bytes
+record Bytes (xs : List ℕ) : Type 0 where
+  each : AllBytes xs
+
+join : {xs ys : List ℕ} → Bytes xs → Bytes ys → Bytes (xs ++ ys)
+join {xs} {ys} a b = record { each = bytes-append xs ys (a .each) (b .each) }
+
+number : (k v : ℕ) → Bytes (bytesOf k v)
+number k v = record { each = bytes-bytesOf k v }
+
+row : (f : ℕ → List ℕ) → ((x : ℕ) → Bytes (f x)) → (xs : List ℕ) → Bytes (flatMap f xs)
+unfolding flatMap
+row f h [] = record { each = λ i. omega arith }
+row f h (x ∷ xs) = join (h x) (row f h xs)
+
+magic-bytes : magic ≡ bytesOf 8 3623234197252098379
+unfolding bytesOf
+magic-bytes = refl
+
+slot-bytes : (arena : List ℕ) (seed held : ℕ) → Bytes (heldSlot arena seed held)
+unfolding heldSlot slotBytes
+slot-bytes arena seed held = join (number 8 _) (join (number 2 _) (number 2 0))
+
+pub body-bytes : (arena : List ℕ) (n seed : ℕ) (pl : Placing) → AllBytes arena → AllBytes (bodyBytes arena n seed pl)
+unfolding bodyBytes headerBytes pilotsBytes slotsBytes
+body-bytes arena n seed pl all =
+    join
+    (join (subst Bytes (sym magic-bytes) (number 8 3623234197252098379)) (join (number 8 seed) (join (number 4 n) (join (number 4 (bucketsOf n)) (number 8 (arenaStart n))))))
+    (join (row (bytesOf 4) (number 4) (pl .pilots)) (join (row (heldSlot arena seed) (slot-bytes arena seed) (pl .slots)) (record { each = all }))) .each
+
+-- ---- the body
+
+module _ (arena : List ℕ) (out : ℕ) (M : Made arena out) (all : AllBytes arena) (fits : out < 2 ^ 64) where
+  n : ℕ
+  n = keysOf arena
+
+  seed : ℕ
+  seed = seedOf (M .attempt)
+
+  hs : List ℕ
+  hs = attemptHashes arena (keysOf arena) (M .attempt)
+
+  body : List ℕ
+  body = bodyBytes arena (keysOf arena) (seedOf (M .attempt)) (M .placing)
+
+  pub body-is : bodyOf arena (keysOf arena) ≡ bodyBytes arena (keysOf arena) (seedOf (M .attempt)) (M .placing)
+  unfolding bodyOf
+  body-is = ap (bodyFrom arena (keysOf arena)) (M .taken)
+
+  hashes-many : length hs ≡ n
+  unfolding hs n attemptHashes
+  hashes-many = hashes-long (seedOf (M .attempt)) arena (keysOf arena)
+
+  whole : Whole hs (M .placing)
+  unfolding hs
+  whole = placed-whole arena (keysOf arena) (M .attempt) (M .placing) (M .any) (M .taken) .0
+
+  least : Pilots hs (M .placing .pilots)
+  unfolding hs
+  least = placed-whole arena (keysOf arena) (M .attempt) (M .placing) (M .any) (M .taken) .1
+
+  pilots-many : length (M .placing .pilots) ≡ bucketsOf n
+  pilots-many = whole .pilots-long ∙ ap bucketsOf hashes-many
+
+  slots-many : length (M .placing .slots) ≡ n
+  slots-many = whole .slots-long ∙ hashes-many
+
+  front : List ℕ
+  front = headerBytes seed n ++ (pilotsBytes (M .placing .pilots) ++ slotsBytes arena seed (M .placing .slots))
+
+  split : body ≡ front ++ arena
+  unfolding body front seed n pilots-many slots-many
+  split = before-arena arena (keysOf arena) seed (M .placing) (M .most) pilots-many slots-many .0
+
+  front-long : length front ≡ arenaStart n
+  unfolding front seed n
+  front-long = before-arena arena (keysOf arena) seed (M .placing) (M .most) pilots-many slots-many .1
+
+  start-of : arenaIn body ≡ length front
+  unfolding body seed n
+  start-of = start-read arena (keysOf arena) seed (M .placing) (M .most) ∙ sym front-long
+
+  keys-of : keysIn body ≡ n
+  unfolding body n
+  keys-of = keys-read arena (keysOf arena) (seedOf (M .attempt)) (M .placing) (M .most)
+
+  buckets-of : bucketsIn body ≡ bucketsOf n
+  unfolding body n
+  buckets-of = buckets-read arena (keysOf arena) (seedOf (M .attempt)) (M .placing) (M .most)
+
+  seed-of : seedIn body ≡ seed
+  unfolding body seed
+  seed-of = seed-read arena (keysOf arena) (seedOf (M .attempt)) (M .placing) (M .most) (seedOf-lt (M .attempt))
+
+  -- the table of the arena
+  t : List Entry
+  t = entriesFrom arena 0 (keysOf arena)
+
+  table-rules : TableRules Untested t
+  unfolding t walked
+  table-rules = read-back unslotted arena Untested 0 0 (length arena) all (omega arith) .rules
+
+  table-bytes : arena ≡ tableBytes t
+  unfolding t walked
+  table-bytes = read-whole unslotted arena Untested (length arena) all (M .whole)
+
+  some-arena : 0 < length arena
+  unfolding t
+  some-arena = omega (arith, ap length table-bytes, table-few t, entries-count arena 0 (keysOf arena), M .any)
+
+  -- THEOREM: the body's table is the arena's table
+  table-same : tableOf body ≡ t
+  unfolding tableOf t n
+  table-same =
+      ap₂ (entriesFrom body) (start-of ∙ sym (add-zero (length front))) keys-of
+      ∙ ap (λ (z : List ℕ). entriesFrom z (length front + 0) (keysOf arena)) split
+      ∙ entries-moved front arena 0 (keysOf arena)
+
+  -- where key j stands in the body, and the key
+  place-of : (j : ℕ) → keyPlace body j ≡ length front + entryPlace arena 0 j
+  unfolding keyPlace
+  place-of j =
+      ap (λ (x : ℕ). entryPlace body x j) (start-of ∙ sym (add-zero (length front)))
+      ∙ ap (λ (z : List ℕ). entryPlace z (length front + 0) j) split ∙ place-moved front arena 0 j
+
+  key-of : (j : ℕ) → table.keyOf body j ≡ keyOf arena j
+  key-of j = ap (keyAt body) (place-of j) ∙ ap (λ (z : List ℕ). keyAt z (length front + entryPlace arena 0 j)) split ∙ key-moved front arena (entryPlace arena 0 j)
+
+  -- the hash of key j
+  hash-of : (j : ℕ) → j < n → hashOf (seedIn body) (table.keyOf body j) ≡ getD hs j 0
+  unfolding hs n seed attemptHashes
+  hash-of j l = ap₂ hashOf seed-of (key-of j) ∙ sym (hash-at (seedOf (M .attempt)) arena (keysOf arena) j l)
+
+  any-key : 0 < n
+  unfolding n
+  any-key = M .any
+
+  -- the pilot of a hash, and its slot
+  pilot-at : (k : ℕ) → k < bucketsOf n → (pilotAt body k ≡ getD (M .placing .pilots) k 0) × (getD (M .placing .pilots) k 0 < 2147483648 + n)
+  unfolding body n
+  pilot-at k l =
+      let low : getD (M .placing .pilots) k 0 < 2147483648 + keysOf arena = omega (arith, pilot-low hs (M .placing .pilots) least k (omega (arith, ap bucketsOf hashes-many)), hashes-many) in
+      let most = M .most in
+      (pilot-read arena (keysOf arena) (seedOf (M .attempt)) (M .placing) (M .most) k (omega (arith, pilots-many)) (omega arith), low)
+
+  slot-of : (h : ℕ) → slotOf body h ≡ indexOf h (M .placing .pilots) n
+  unfolding pilotOf indexOf
+  slot-of h =
+      let low : bucketOf h (bucketsOf n) < bucketsOf n = bucketOf-lt h (bucketsOf n) (some-buckets n any-key) in
+      ap₂ (λ (x y : ℕ). slotNumber x y h) keys-of (ap (λ (x : ℕ). pilotAt body (bucketOf h x)) buckets-of ∙ pilot-at (bucketOf h (bucketsOf n)) low .0)
+      ∙ slot-same n (getD (M .placing .pilots) (bucketOf h (bucketsOf n)) 0) h
+      ∙ ap (λ (x : ℕ). slotBy h (getD (M .placing .pilots) (bucketOf h x) 0) n) (sym pilots-many)
+
+  -- slot s holds key j
+  holds : (j : ℕ) → j < n → (s : ℕ) → s ≡ indexOf (getD hs j 0) (M .placing .pilots) n → (getD (M .placing .slots) s 0 ≡ suc j) × (s < length (M .placing .slots))
+  holds j l s e =
+      let f : getD (M .placing .slots) s 0 ≡ suc j = ap (λ (x : ℕ). getD (M .placing .slots) x 0) (e ∙ ap (indexOf (getD hs j 0) (M .placing .pilots)) (sym hashes-many)) ∙ whole .found j (omega (arith, hashes-many)) in
+      (f, ⊎-elim (λ (z : s < length (M .placing .slots)). z) (λ (z : length (M .placing .slots) ≤ s). absurd (omega (arith, f, List·getD-eq-default (M .placing .slots) 0 z))) (lt-or-ge s (length (M .placing .slots))))
+
+  -- every place is below 2^64
+  place-low : (j : ℕ) → j < n → entryPlace arena 0 j < 2 ^ 64
+  unfolding n walked
+  place-low j l =
+      let e : walked arena .end ≡ entryPlace arena 0 (keysOf arena) = walk-ends unslotted arena Untested 0 0 (length arena) in
+      omega (arith, place-rises arena 0 j (keysOf arena) l, e, M .whole, M .room, fits)
+
+  -- slot s, where it holds key j
+  offset-of : (s : ℕ) → s < length (M .placing .slots) → (j : ℕ) → getD (M .placing .slots) s 0 - 1 ≡ j → j < n → recordOffset body (slotPlace body s) ≡ entryPlace arena 0 j
+  unfolding body n
+  offset-of s ls j m l =
+      offset-read arena (keysOf arena) (seedOf (M .attempt)) (M .placing) (M .most) pilots-many s ls (subst (λ (x : ℕ). entryPlace arena 0 x < 2 ^ 64) (sym m) (place-low j l)) ∙ ap (entryPlace arena 0) m
+
+  print-of : (s : ℕ) → s < length (M .placing .slots) → (j : ℕ) → getD (M .placing .slots) s 0 - 1 ≡ j → fingerprintWide body (slotPlace body s) ≡ fingerprintOf (hashOf seed (keyOf arena j))
+  unfolding body n seed
+  print-of s ls j m =
+      print-read arena (keysOf arena) (seedOf (M .attempt)) (M .placing) (M .most) pilots-many s ls ∙ ap (λ (x : ℕ). fingerprintOf (hashOf (seedOf (M .attempt)) (keyOf arena x))) m
+
+  belongs : (j : ℕ) → j < n → Belongs body (keySlot body (table.keyOf body j)) j
+  belongs j l =
+      let h = hashOf (seedIn body) (table.keyOf body j) in
+      let s = slotOf body h in
+      let es : s ≡ indexOf (getD hs j 0) (M .placing .pilots) n = slot-of h ∙ ap (λ (x : ℕ). indexOf x (M .placing .pilots) n) (hash-of j l) in
+      let f = holds j l s es in
+      let m : getD (M .placing .slots) s 0 - 1 ≡ j = omega (arith, f .0) in
+      record {
+        slot = refl;
+        place = ap₂ (λ (x y : ℕ). x + y) start-of (offset-of s (f .1) j m l) ∙ sym (place-of j);
+        fingerprint = print-of s (f .1) j m ∙ ap fingerprintOf (sym (ap₂ hashOf seed-of (key-of j)));
+      }
+
+  -- ---- 20 to 22
+
+  long : length body ≡ arenaStart n + length arena
+  unfolding body n
+  long = body-long arena (keysOf arena) (seedOf (M .attempt)) (M .placing) pilots-many slots-many
+
+  magic-of : take 8 body ≡ magic
+  unfolding body
+  magic-of = magic-read arena (keysOf arena) (seedOf (M .attempt)) (M .placing) (M .most)
+
+  header-fine : headerRefusal body ≡ 0
+  unfolding n bucketsOf
+  header-fine =
+      let st = start-is n (bucketsOf n) refl in
+      let some = some-arena in
+      let most = M .most in
+      header-on body 0 0 n (bucketsOf n) (arenaStart n)
+      (sym (magic-is body true (omega (arith, long)) (ap (λ (z : List ℕ). sameAs z magic) magic-of ∙ same-self magic))) refl (sym keys-of) (sym buckets-of) (sym (start-of ∙ front-long))
+      (dimensions-fine (length body) n (bucketsOf n) (arenaStart n) any-key (omega arith) refl st (omega (arith, long)))
+
+  pilots-passed : pilotsRefusal body (keysIn body) 0 (bucketsIn body) ≡ 0
+  pilots-passed =
+      ap₂ (λ (x y : ℕ). pilotsRefusal body x 0 y) keys-of buckets-of
+      ∙ pilots-fine body n 0 (bucketsOf n) (λ j l. let p = pilot-at j (omega arith) in ap (directPast n) (p .0) ∙ lt-leb (2147483648 + n) (getD (M .placing .pilots) j 0) (p .1))
+
+  -- THEOREM: the body is accepted with any data that covers the arena's records
+  made-accepted : (cover : ℕ) → TableInData cover t → validateOf body cover ≡ Accepted
+  unfolding t n
+  made-accepted cover h =
+      accepts body cover t header-fine pilots-passed (entries-count arena 0 (keysOf arena) ∙ sym keys-of)
+      (ap₂ drop start-of split ∙ drop-at front arena (length front) refl ∙ table-bytes)
+      (table-in cover t table-rules h) (λ j l. belongs j (omega (arith, keys-of)))
+
+module _ (arena : List ℕ) (out wide narrow k : ℕ) (all : AllBytes arena) (fits : out < 2 ^ 64) (e : finishOf arena out wide narrow ≡ Body k) where
+  -- THEOREM: for any arena that finish takes, the body is accepted with any data length that covers its records
+  pub finish-accepted : (cover : ℕ) → TableInData cover (entriesFrom arena 0 (keysOf arena)) → validateOf (bodyOf arena (keysOf arena)) cover ≡ Accepted
+  unfolding body t
+  finish-accepted cover h = ap (λ (z : List ℕ). validateOf z cover) (body-is arena out (made arena out wide narrow k e) all fits) ∙ made-accepted arena out (made arena out wide narrow k e) all fits cover h
+
+  -- THEOREM: its table is the arena's table
+  pub finish-table : tableOf (bodyOf arena (keysOf arena)) ≡ entriesFrom arena 0 (keysOf arena)
+  unfolding body t
+  finish-table = ap tableOf (body-is arena out (made arena out wide narrow k e) all fits) ∙ table-same arena out (made arena out wide narrow k e) all fits
+
+  -- THEOREM: it is as long as finish answers
+  pub finish-length : length (bodyOf arena (keysOf arena)) ≡ k
+  unfolding body n
+  finish-length =
+      ap length (body-is arena out (made arena out wide narrow k e) all fits) ∙ long arena out (made arena out wide narrow k e) all fits
+      ∙ sym (body-answered arena out wide narrow k e .1)
+
+  -- THEOREM: get on it is the lookup in the arena's table
+  pub finish-get : (cover : ℕ) → TableInData cover (entriesFrom arena 0 (keysOf arena)) → (key : List ℕ) (limit : Limit)
+      → getOf (bodyOf arena (keysOf arena)) cover key limit ≡ answerTo (lookup (entriesFrom arena 0 (keysOf arena)) key limit)
+  finish-get cover h key limit =
+      let M = made arena out wide narrow k e in
+      get-is-lookup (bodyOf arena (keysOf arena)) cover (finish-accepted cover h) (subst AllBytes (sym (body-is arena out M all fits)) (body-bytes arena (keysOf arena) (seedOf (M .attempt)) (M .placing) all)) key limit
+      ∙ ap (λ (z : List Entry). answerTo (lookup z key limit)) finish-table

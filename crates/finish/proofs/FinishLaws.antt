@@ -1,0 +1,221 @@
+-- Finish by its parts: the refusal before the keys are placed and the one after, and what the workspace of a taken attempt gives. Assumes nothing.
+use Prim.Native.Nat.{ℕ, zero, suc, _+_, _-_, _≤_, _<_}
+use native.Mathlib.Nat.{zero-lt-suc}
+use native.Mathlib.Omega.{arith}
+use native.Mathlib.Decide.{ℕ-discrete}
+use native.Mathlib.Numerals.{lt-of-le-of-ne}
+use mathlib.Core.Path.{_≡_, refl, sym, ap, ap₂, _∙_, subst}
+use mathlib.Core.Bool.{Bool, true, false, cond}
+use mathlib.Core.List.{List, [], _∷_, _++_}
+use mathlib.Core.Option.{Option, none, some}
+use lib.ListN.{length, getD, take, replicate, List·getD-append}
+use lib.Seq.{getD-take, getD-at, length-take-le}
+use lib.Dec.{eqb}
+use borrow.Author.Tests.{ne-eqb}
+use Rattle.laws.specs.Refusals.{Cause, firstOf, orElse, Numbered}
+use Rattle.laws.specs.Refusals.Numbered.{numbered-none, numbered-more}
+use Rattle.laws.specs.RefusalLaws.{orElse-stop}
+use Rattle.words.specs.Field.{splice}
+use Rattle.mixing.specs.Mixing.{hashOf, seedOf}
+use Rattle.construct.specs.Construct.{bucketsOf, Placing, constructOf}
+use Rattle.construct.specs.Keys.{keyOf, hashesOf, attemptHashes}
+use Rattle.records.specs.declared.DataLength.the-variants.{Untested}
+use Rattle.records.specs.declared.Walked.{Walked}
+use Rattle.records.specs.Places.{entryPlace}
+use Rattle.records.specs.Rules.{unslotted}
+use Rattle.records.specs.Walk.{walkFrom}
+use Rattle.records.proofs.PassedLaws.{walk-ends}
+use Rattle.construct.specs.Layout.{placing, answerOf, Lent}
+use Rattle.construct.specs.Layout as lay
+use Rattle.construct.specs.declared.Constructed.{Constructed}
+use Rattle.construct.specs.declared.Constructed.the-variants.{Placed, Exhausted}
+use Rattle.construct.proofs.KeysLaws.{hashes-long}
+use Rattle.finish.specs.declared.Finished.{Finished}
+use Rattle.finish.specs.declared.Finished.the-variants.{Body, Refused}
+use Rattle.finish.specs.Body.{arenaStart, bodyBytes, placedOf, bodyFrom, bodyOf}
+use Rattle.finish.specs.Finish.{lengthCauses, placingCauses, lengthRefusal, mismatch, placingRefusal, lengthsRefusal, keysOf, walked, finishRefusal, answered, bodyLength, finishOf, outAfter, spaceAfter, FinishPost}
+use Rattle.finish.specs.Needs.{Room, Chosen, Built, Written, Filled}
+use Rattle.finish.proofs.LengthLaws.{Lengths, lengths}
+use Rattle.finish.proofs.CheckLaws.{all-filled}
+use Rattle.finish.proofs.BodyLaws.{few-buckets}
+
+-- ---- the refusals in a row
+
+-- the first of two rows
+first-append : (cs ds : List Cause) → Numbered cs → firstOf (cs ++ ds) ≡ orElse (firstOf cs) (firstOf ds)
+first-append [] ds numbered-none = refl
+first-append (c ∷ cs) ds (numbered-more p r) = go (c .holds) (first-append cs ds r)
+  where
+    go : (t : Bool) → firstOf (cs ++ ds) ≡ orElse (firstOf cs) (firstOf ds) → cond t (c .number) (firstOf (cs ++ ds)) ≡ orElse (cond t (c .number) (firstOf cs)) (firstOf ds)
+    go true e = sym (orElse-stop (c .number) (firstOf ds) (λ z. omega arith))
+    go false e = e
+
+numbered-lengths : (size end n out wide narrow : ℕ) → Numbered (lengthCauses size end n out wide narrow)
+numbered-lengths size end n out wide narrow =
+    numbered-more (zero-lt-suc 7)
+    (numbered-more (zero-lt-suc 4) (numbered-more (zero-lt-suc 4) (numbered-more (zero-lt-suc 8) (numbered-more (zero-lt-suc 8) (numbered-more (zero-lt-suc 5) numbered-none)))))
+
+module _ (arena : List ℕ) (out wide narrow : ℕ) where
+  pub refused-by : finishRefusal arena out wide narrow ≡ orElse (lengthsRefusal arena out wide narrow) (placingRefusal arena (keysOf arena))
+  unfolding finishRefusal lengthRefusal placingRefusal
+  refused-by =
+      first-append (lengthCauses (length arena) (walked arena .end) (keysOf arena) out wide narrow) (placingCauses arena (keysOf arena))
+      (numbered-lengths (length arena) (walked arena .end) (keysOf arena) out wide narrow)
+
+  -- a refusal before the keys are placed
+  pub refused-early : (lengthsRefusal arena out wide narrow ≡ 0 → ⊥) → finishRefusal arena out wide narrow ≡ lengthsRefusal arena out wide narrow
+  refused-early h = refused-by ∙ orElse-stop _ _ h
+
+  -- and none
+  pub refused-late : lengthsRefusal arena out wide narrow ≡ 0 → finishRefusal arena out wide narrow ≡ placingRefusal arena (keysOf arena)
+  refused-late h = refused-by ∙ ap (λ (x : ℕ). orElse x (placingRefusal arena (keysOf arena))) h
+
+-- a refusal is answered by its number
+pub answered-refused : (r size : ℕ) → (r ≡ 0 → ⊥) → answered r size ≡ Refused r
+answered-refused zero size h = absurd (h refl)
+answered-refused (suc r) size h = refl
+
+-- ---- the room for the keys
+
+pub room-lent : (arena out h w : List ℕ) (n : ℕ) → Room arena out h w n → Lent arena h w n
+room-lent arena out h w n R =
+    let most = R .most in
+    record { any = R .any; most = omega arith; entries = R .entries; long = R .long; room = omega (arith, few-buckets n, R .words) }
+
+pub room-kept : (arena out h w h′ w′ : List ℕ) (n : ℕ) → Room arena out h w n → length h′ ≡ length h → length w′ ≡ length w → Room arena out h′ w′ n
+room-kept arena out h w h′ w′ n R eh ew =
+    let u = R .words in
+    record { any = R .any; most = R .most; entries = R .entries; long = eh ∙ R .long; words = omega arith; room = R .room }
+
+-- ---- what construct left
+
+module _ (arena h w : List ℕ) (n : ℕ) where
+  pub exhausted : (r : Constructed) → r ≡ Exhausted → lay.Built (attemptHashes arena n) n h w r → placedOf arena n ≡ none
+  unfolding placedOf
+  exhausted r er B = go (constructOf (attemptHashes arena n)) (sym er ∙ B .answer)
+    where
+      go : (o : Option (ℕ × Placing)) → Exhausted ≡ answerOf o → o ≡ none
+      go none e = refl
+      go (some (i, pl)) e = absurd (let z : _≡_ {A = ℕ} 0 1 = cc in omega arith)
+
+  pub chosen : (i : ℕ) (r : Constructed) → r ≡ Placed i → lay.Built (attemptHashes arena n) n h w r → Chosen arena h w n i
+  unfolding placedOf
+  chosen i r er B = go (constructOf (attemptHashes arena n)) refl (sym er ∙ B .answer)
+    where
+      go : (o : Option (ℕ × Placing)) → constructOf (attemptHashes arena n) ≡ o → Placed i ≡ answerOf o → Chosen arena h w n i
+      go none e q = absurd (let z : _≡_ {A = ℕ} 0 1 = cc in omega arith)
+      go (some (j, pl)) e q =
+          let ij : i ≡ j = cc in
+          record {
+            taken = e ∙ ap₂ (λ (x : ℕ) (y : Placing). some (x, y)) (sym ij) (sym (B .placed j pl e));
+            hashes = B .kept j pl e ∙ ap (attemptHashes arena n) (sym ij);
+          }
+
+-- hash m of the first n
+pub hash-at : (seed : ℕ) (arena : List ℕ) (n m : ℕ) → m < n → getD (hashesOf seed arena n) m 0 ≡ hashOf seed (keyOf arena m)
+unfolding hashesOf
+hash-at seed arena zero m l = absurd (omega arith)
+hash-at seed arena (suc n) m l = go (ℕ-discrete m n) (λ lt. hash-at seed arena n m lt)
+  where
+    go : Dec (m ≡ n) → (m < n → getD (hashesOf seed arena n) m 0 ≡ hashOf seed (keyOf arena m)) → getD (hashesOf seed arena n ++ (hashOf seed (keyOf arena n) ∷ [])) m 0 ≡ hashOf seed (keyOf arena m)
+    go (yes e) rest = getD-at (hashesOf seed arena n) (hashOf seed (keyOf arena n)) [] 0 m (hashes-long seed arena n ∙ sym e) ∙ ap (λ (x : ℕ). hashOf seed (keyOf arena x)) (sym e)
+    go (no e) rest =
+        let lt : m < n = lt-of-le-of-ne (omega arith) e in
+        List·getD-append (hashesOf seed arena n) (hashOf seed (keyOf arena n) ∷ []) 0 m (omega (arith, hashes-long seed arena n)) ∙ rest lt
+
+module _ (arena h w : List ℕ) (n i : ℕ) (C : Chosen arena h w n i) where
+  -- 11 by the self-check of what was left
+  pub chosen-refusal : (pilots slots : List ℕ) (t : Bool) → pilots ≡ placing n (bucketsOf n) w .pilots → slots ≡ placing n (bucketsOf n) w .slots → mismatch (take n h) pilots slots ≡ t → placingRefusal arena n ≡ cond t 11 0
+  unfolding placingRefusal
+  chosen-refusal pilots slots t ep es e =
+      let q : mismatch (attemptHashes arena n i) (placing n (bucketsOf n) w .pilots) (placing n (bucketsOf n) w .slots) ≡ t =
+      ap (λ (z : List ℕ). mismatch z (placing n (bucketsOf n) w .pilots) (placing n (bucketsOf n) w .slots)) (sym (C .hashes))
+      ∙ ap (λ (z : List ℕ). mismatch (take n h) z (placing n (bucketsOf n) w .slots)) (sym ep)
+      ∙ ap (mismatch (take n h) pilots) (sym es) ∙ e in
+      rw (C .taken, q)
+
+  chosen-body : bodyOf arena n ≡ bodyBytes arena n (seedOf i) (placing n (bucketsOf n) w)
+  unfolding bodyOf
+  chosen-body = ap (bodyFrom arena n) (C .taken)
+
+  pub chosen-out : (out out′ : List ℕ) (seed : ℕ) → seed ≡ seedOf i → out′ ≡ splice out 0 (bodyBytes arena n seed (placing n (bucketsOf n) w)) → out′ ≡ splice out 0 (bodyOf arena n)
+  chosen-out out out′ seed es q = q ∙ ap (λ (x : ℕ). splice out 0 (bodyBytes arena n x (placing n (bucketsOf n) w))) es ∙ ap (splice out 0) (sym chosen-body)
+
+  -- the hashes, and that every slot holds a key where the self-check passes
+  pub chosen-written : (seed : ℕ) (pilots slots : List ℕ) → seed ≡ seedOf i → slots ≡ placing n (bucketsOf n) w .slots → length (placing n (bucketsOf n) w .slots) ≡ n → mismatch (take n h) pilots slots ≡ false → Written arena h w n seed
+  unfolding attemptHashes
+  chosen-written seed pilots slots es eq l e = record {
+    hashes = λ m lm. sym (getD-take n h m 0 lm) ∙ ap (λ (z : List ℕ). getD z m 0) (C .hashes) ∙ hash-at (seedOf i) arena n m lm ∙ ap (λ (x : ℕ). hashOf x (keyOf arena m)) (sym es);
+    slots = subst (λ (z : List ℕ). Filled n z) eq (subst (λ (x : ℕ). Filled x slots) (ap length eq ∙ l) (all-filled (take n h) pilots slots e));
+  }
+
+-- ---- what was built
+
+pub built-ten : (arena out : List ℕ) (n : ℕ) → placedOf arena n ≡ none → Built arena out n (Refused 10) out
+unfolding placingRefusal
+built-ten arena out n e = record { answer = rw e; written = rw e }
+
+pub built-eleven : (arena out : List ℕ) (n : ℕ) → placingRefusal arena n ≡ 11 → Built arena out n (Refused 11) out
+built-eleven arena out n e = record { answer = rw e; written = rw e }
+
+pub built-body : (arena out out′ : List ℕ) (n start : ℕ) → placingRefusal arena n ≡ 0 → start ≡ arenaStart n → out′ ≡ splice out 0 (bodyOf arena n) → Built arena out n (Body (start + length arena)) out′
+built-body arena out out′ n start e es q = record { answer = rw (e, es); written = rw e q }
+
+-- ---- what finish leaves
+
+module _ (arena o w u : List ℕ) (k : Walked) (ek : k ≡ walkFrom unslotted arena Untested 0 0 (length arena)) where
+  by-walk : lengthRefusal (length arena) (k .end) (k .keys) (length o) (length w) (length u) ≡ lengthsRefusal arena (length o) (length w) (length u)
+  unfolding walked
+  by-walk = ap (λ (x : Walked). lengthRefusal (length arena) (x .end) (x .keys) (length o) (length w) (length u)) ek
+
+  keys-walked : k .keys ≡ keysOf arena
+  unfolding walked
+  keys-walked = ap (λ (x : Walked). x .keys) ek
+
+  -- refused before the keys are placed: nothing is written
+  pub post-early : (r : ℕ) → r ≡ lengthRefusal (length arena) (k .end) (k .keys) (length o) (length w) (length u) → (r ≡ 0 → ⊥) → FinishPost arena o w u (Refused r) o w u
+  unfolding finishOf outAfter
+  post-early r e n =
+      let e′ : lengthsRefusal arena (length o) (length w) (length u) ≡ r = sym (e ∙ by-walk) in
+      let q : finishRefusal arena (length o) (length w) (length u) ≡ r = refused-early arena (length o) (length w) (length u) (λ z. n (sym e′ ∙ z)) ∙ e′ in
+      record {
+        answer = sym (ap (λ (x : ℕ). answered x (bodyLength arena (keysOf arena))) q ∙ answered-refused r _ n);
+        out = sym (ap (λ (x : ℕ). cond (eqb x 0) (splice o 0 (bodyOf arena (keysOf arena))) o) q ∙ ap (λ (t : Bool). cond t (splice o 0 (bodyOf arena (keysOf arena))) o) (ne-eqb r 0 n));
+        wide = sym (ap (λ (x : ℕ). spaceAfter x w) e′ ∙ ap (λ (t : Bool). cond t (replicate (length w) 0) w) (ne-eqb r 0 n));
+        narrow = sym (ap (λ (x : ℕ). spaceAfter x u) e′ ∙ ap (λ (t : Bool). cond t (replicate (length u) 0) u) (ne-eqb r 0 n));
+      }
+
+  module _ (passed : lengthRefusal (length arena) (k .end) (k .keys) (length o) (length w) (length u) ≡ 0) where
+    pub length-facts : Lengths (length arena) (k .end) (k .keys) (length o) (length w) (length u)
+    length-facts = lengths (length arena) (k .end) (k .keys) (length o) (length w) (length u) passed
+
+    pub space-long : length (take (k .keys + k .keys) w) ≡ k .keys + k .keys
+    space-long = length-take-le (k .keys + k .keys) w (omega (arith, length-facts .wide-long))
+
+    walk-inside : entryPlace arena 0 (k .keys) ≤ length arena
+    walk-inside =
+        let e : k .end ≡ entryPlace arena 0 (k .keys) = ap (λ (x : Walked). x .end) ek ∙ walk-ends unslotted arena Untested 0 0 (length arena) ∙ ap (λ (x : Walked). entryPlace arena 0 (x .keys)) (sym ek) in
+        omega (arith, e, length-facts .whole)
+
+    pub post-room : Room arena o (take (k .keys + k .keys) w) u (k .keys)
+    post-room = record {
+      any = length-facts .some;
+      most = length-facts .few;
+      entries = walk-inside;
+      long = space-long;
+      words = length-facts .narrow-long;
+      room = length-facts .room;
+    }
+
+    -- the keys placed or not: the output as that leaves it, the workspace zero
+    pub post-late : (r : Finished) (o′ w′ u′ : List ℕ) → Built arena o (k .keys) r o′ → w′ ≡ replicate (length w) 0 → u′ ≡ replicate (length u) 0 → FinishPost arena o w u r o′ w′ u′
+    unfolding finishOf outAfter
+    post-late r o′ w′ u′ B ew eu =
+        let z : lengthsRefusal arena (length o) (length w) (length u) ≡ 0 = sym by-walk ∙ passed in
+        let q : finishRefusal arena (length o) (length w) (length u) ≡ placingRefusal arena (k .keys) = refused-late arena (length o) (length w) (length u) z ∙ ap (placingRefusal arena) (sym keys-walked) in
+        record {
+          answer = B .answer ∙ sym (ap (λ (x : ℕ). answered x (bodyLength arena (keysOf arena))) q ∙ ap (λ (x : ℕ). answered (placingRefusal arena (k .keys)) (bodyLength arena x)) (sym keys-walked));
+          out = B .written ∙ sym (ap (λ (x : ℕ). cond (eqb x 0) (splice o 0 (bodyOf arena (keysOf arena))) o) q ∙ ap (λ (x : ℕ). cond (eqb (placingRefusal arena (k .keys)) 0) (splice o 0 (bodyOf arena x)) o) (sym keys-walked));
+          wide = ew ∙ sym (ap (λ (x : ℕ). spaceAfter x w) z);
+          narrow = eu ∙ sym (ap (λ (x : ℕ). spaceAfter x u) z);
+        }

@@ -1,0 +1,11 @@
+pub mod RowLaws
+pub mod LengthLaws
+pub mod CheckLaws
+pub mod BodyLaws
+pub mod FinishLaws
+pub mod SelfCheck
+pub mod Answers
+pub mod ShiftLaws
+pub mod FieldLaws
+pub mod Accepted
+pub mod Figures

@@ -1,0 +1,76 @@
+-- `finish::body::list_places` meets its contract. The loop's invariant: p is the place of entry i, and the places before it stand behind the hashes. Assumes nothing.
+use Prim.Native.Nat.{ℕ, _+_, _-_, _≤_, _<_}
+use native.Mathlib.Omega.{arith}
+use mathlib.Core.Path.{_≡_, refl, sym, ap, _∙_}
+use denote.Ref.{now}
+use lib.ListN.{length, getD, length-set}
+use Rattle.records.specs.Places.{nextEntry, entryPlace}
+use Rattle.construct.proofs.KeysLaws.{entry-first, entry-next}
+use Rattle.finish.proofs.BodyLaws.{listed-more, entry-inside}
+use borrow.Author.Needs.{needs}
+use Rattle.finish.proofs.body.list_places.Statement.{statement}
+use Rattle.finish.proofs.body.list_places.Tie as tie
+
+abbrev Inv-loop : tie.InvT-loop
+Inv-loop arena h₀ n p₀ i₀ h p i =
+    (i ≤ n)
+    × (length h ≡ length h₀)
+    × (p ≡ entryPlace arena 0 i)
+    × ((m : ℕ) → m < n → getD h m 0 ≡ getD h₀ m 0)
+    × ((m : ℕ) → m < i → getD h (n + m) 0 ≡ entryPlace arena 0 m)
+
+abbrev μ-loop : tie.MeasureT-loop
+μ-loop arena h₀ n p₀ i₀ h p i = n - i
+
+loop-holds : tie.Need-loop-holds Inv-loop μ-loop
+loop-holds c = (omega arith, refl, sym (entry-first _), λ m l. refl, λ m l. absurd (omega arith))
+
+add-h : tie.Need-add-h Inv-loop μ-loop
+add-h c = search needs
+
+mul-h : tie.Need-mul-h Inv-loop μ-loop
+mul-h c = search needs
+
+slice-write-h : tie.Need-slice-write-h Inv-loop μ-loop
+slice-write-h c = search needs
+
+next-entry-requires : tie.Need-next-entry-requires Inv-loop μ-loop
+next-entry-requires c κs = entry-inside _ _ (c .before .loop .i) _ (c .before .before .before .before .pre .0) (c .before .loop .inv .2) (c .loop-test .taken)
+
+add-i : tie.Need-add-i Inv-loop μ-loop
+add-i c = search needs
+
+loop-less : tie.Need-loop-less Inv-loop μ-loop
+loop-less c = search needs
+
+loop-again : tie.Need-loop-again Inv-loop μ-loop
+loop-again c =
+    let l = c .before .before .loop in
+    let a = c .before .before .before .before .before .args in
+    let m = listed-more (now (a .arena)) (l .h) (now (a .h)) (a .n) (l .i) (l .p) (c .before .loop-test .taken) (l .inv .1 ∙ c .before .before .before .before .before .pre .1) (l .inv .2) (l .inv .3) (l .inv .4) in
+    (omega arith, simp length-set (l .inv .1), c .next-entry .ensures ∙ ap (nextEntry _) (l .inv .2) ∙ sym (entry-next _ _), m .0, m .1)
+
+same-length : tie.Need-same-length Inv-loop μ-loop
+same-length c = search needs
+
+returns : tie.Need-returns Inv-loop μ-loop
+returns c =
+    let l = c .before .loop in
+    record { hashes = l .inv .3; places = λ m lm. l .inv .4 m (omega arith) }
+
+pub list-places-spec : {M : Type 1} → statement M
+list-places-spec =
+    tie.close
+    (tie.spec
+    Inv-loop
+    μ-loop
+    loop-holds
+    add-h
+    mul-h
+    slice-write-h
+    next-entry-requires
+    add-i
+    loop-less
+    loop-again
+    same-length
+    returns)

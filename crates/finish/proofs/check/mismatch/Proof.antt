@@ -1,0 +1,69 @@
+-- `finish::check::mismatch` meets its contract. The loop's invariant: no slot below s is unfilled or mismatched. Assumes nothing.
+use Prim.Native.Nat.{_-_, _≤_}
+use native.Mathlib.Omega.{arith}
+use mathlib.Core.Path.{_≡_, refl, sym, ap, _∙_}
+use mathlib.Core.Bool.{false}
+use lib.ListN.{length}
+use borrow.Author.Needs.{needs}
+use Rattle.laws.specs.Steps.{anyBelow, any-none, any-hit, any-miss}
+use Rattle.finish.specs.Finish.{unmatchedAt, mismatch}
+use Rattle.finish.proofs.CheckLaws.{unmatched-at}
+use Rattle.finish.proofs.check.mismatch.Statement.{statement}
+use Rattle.finish.proofs.check.mismatch.Tie as tie
+
+abbrev Inv-loop : tie.InvT-loop
+Inv-loop hs pilots slots n s₀ s = (n ≡ length slots) × (s ≤ n) × (anyBelow (unmatchedAt hs pilots slots) s ≡ false)
+
+abbrev μ-loop : tie.MeasureT-loop
+μ-loop hs pilots slots n s₀ s = n - s
+
+loop-holds : tie.Need-loop-holds Inv-loop μ-loop
+loop-holds c = (refl, omega arith, any-none _)
+
+mul-unmatched : tie.Need-mul-unmatched Inv-loop μ-loop
+mul-unmatched c = search needs
+
+shared-slice-read-unmatched : tie.Need-shared-slice-read-unmatched Inv-loop μ-loop
+shared-slice-read-unmatched c = search needs
+
+unmatched-requires : tie.Need-unmatched-requires Inv-loop μ-loop
+unmatched-requires c κs = search needs
+
+returns : tie.Need-returns Inv-loop μ-loop
+unfolding mismatch
+returns c =
+    let l = c .before .before .before .before .loop in
+    sym (any-hit _ (l .s) _ (omega arith) (unmatched-at _ _ _ _ _ _ (l .inv .0) (c .before .unmatched .ensures) ∙ c .if1 .taken) (l .inv .2))
+
+add-s : tie.Need-add-s Inv-loop μ-loop
+add-s c = search needs
+
+loop-less : tie.Need-loop-less Inv-loop μ-loop
+loop-less c = search needs
+
+loop-again : tie.Need-loop-again Inv-loop μ-loop
+loop-again c =
+    let l = c .before .before .before .before .loop in
+    (l .inv .0, omega arith, any-miss _ (l .s) (unmatched-at _ _ _ _ _ _ (l .inv .0) (c .before .unmatched .ensures) ∙ c .if1 .left) (l .inv .2))
+
+returns-2 : tie.Need-returns-2 Inv-loop μ-loop
+unfolding mismatch
+returns-2 c =
+    let l = c .before .loop in
+    sym (ap (anyBelow _) (omega arith) ∙ l .inv .2)
+
+pub mismatch-spec : {M : Type 1} → statement M
+mismatch-spec =
+    tie.close
+    (tie.spec
+    Inv-loop
+    μ-loop
+    loop-holds
+    mul-unmatched
+    shared-slice-read-unmatched
+    unmatched-requires
+    returns
+    add-s
+    loop-less
+    loop-again
+    returns-2)

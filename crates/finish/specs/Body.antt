@@ -1,0 +1,52 @@
+-- The body that finish writes (document 01, "Layouts").
+use Prim.Native.Nat.{ℕ, _+_, _-_, _*_}
+use mathlib.Core.List.{List, [], _++_, flatMap}
+use mathlib.Core.Option.{Option, none, some}
+use Rattle.words.specs.Field.{bytesOf}
+use Rattle.mixing.specs.Mixing.{hashOf, fingerprintOf, seedOf}
+use Rattle.records.specs.Places.{entryPlace}
+use Rattle.construct.specs.Construct.{bucketsOf, Placing, constructOf}
+use Rattle.construct.specs.Keys.{keyOf, attemptHashes}
+use Rattle.point.specs.Layout.{magic}
+
+-- arena start = 32 + 4b + 12n
+unfoldable pub arenaStart : ℕ → ℕ
+arenaStart n = 32 + 4 * bucketsOf n + 12 * n
+
+-- `KIBANPH2`, u64 seed, u32 n, u32 b, u64 arena start
+unfoldable pub headerBytes : (seed n : ℕ) → List ℕ
+headerBytes seed n = magic ++ (bytesOf 8 seed ++ (bytesOf 4 n ++ (bytesOf 4 (bucketsOf n) ++ bytesOf 8 (arenaStart n))))
+
+-- b pilots of u32
+unfoldable pub pilotsBytes : List ℕ → List ℕ
+pilotsBytes pilots = flatMap (bytesOf 4) pilots
+
+-- a slot: u64 record offset from the arena start, u16 fingerprint, u16 zero
+unfoldable pub slotBytes : (offset fingerprint : ℕ) → List ℕ
+slotBytes offset fingerprint = bytesOf 8 offset ++ (bytesOf 2 fingerprint ++ bytesOf 2 0)
+
+-- the slot of the key that is held as m + 1: that key's place in the arena, and its fingerprint
+unfoldable pub heldSlot : List ℕ → (seed held : ℕ) → List ℕ
+heldSlot arena seed held = slotBytes (entryPlace arena 0 (held - 1)) (fingerprintOf (hashOf seed (keyOf arena (held - 1))))
+
+-- n slots
+unfoldable pub slotsBytes : List ℕ → (seed : ℕ) → List ℕ → List ℕ
+slotsBytes arena seed slots = flatMap (heldSlot arena seed) slots
+
+-- the body of n keys under a seed, their pilots and what the slots hold: header, pilots, slots, arena
+unfoldable pub bodyBytes : List ℕ → (n seed : ℕ) → Placing → List ℕ
+bodyBytes arena n seed pl =
+    headerBytes seed n ++ (pilotsBytes (pl .pilots) ++ (slotsBytes arena seed (pl .slots) ++ arena))
+
+-- the placing of the n keys of an arena, with the attempt that is taken
+unfoldable pub placedOf : List ℕ → ℕ → Option (ℕ × Placing)
+placedOf arena n = constructOf (attemptHashes arena n)
+
+-- the body by what construct gave: under the seed of the attempt taken
+abbrev pub bodyFrom : List ℕ → ℕ → Option (ℕ × Placing) → List ℕ
+bodyFrom arena n none = []
+bodyFrom arena n (some (i, pl)) = bodyBytes arena n (seedOf i) pl
+
+-- the body of n keys of an arena
+unfoldable pub bodyOf : List ℕ → ℕ → List ℕ
+bodyOf arena n = bodyFrom arena n (placedOf arena n)

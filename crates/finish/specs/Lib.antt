@@ -1,0 +1,4 @@
+pub mod Body
+pub mod Finish
+pub mod Needs
+pub mod Example

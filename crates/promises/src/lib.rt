@@ -1,0 +1,1 @@
+// What is promised, as theorems over the crates below: see specs/.
