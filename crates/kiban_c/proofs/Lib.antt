@@ -1,2 +1,5 @@
-mod ReadingLaws
+pub mod BuildLaws
+pub mod FilterCallLaws
 mod ListingLaws
+mod ReadingLaws
+pub mod UniqueLaws

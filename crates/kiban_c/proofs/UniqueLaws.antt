@@ -1,0 +1,23 @@
+-- Two results that meet a contract of the boundary coincide, lent words and bytes included. Assumes nothing.
+use mathlib.Core.Path.{_≡_, sym, _∙_}
+use mathlib.Core.List.{List}
+use Prim.Native.Nat.{ℕ}
+use Rattle.mixing.specs.Mixing.{mixOf, hashOf}
+use Rattle.kiban_c.specs.FilterCalls.{FilterReadPost, filterAskOf, FilterAskAllPost}
+
+pub mix-unique : (h : ℕ) {r q : ℕ} → r ≡ mixOf h → q ≡ mixOf h → r ≡ q
+mix-unique h p t = p ∙ sym t
+
+pub hash-unique : (seed : ℕ) (key : List ℕ) {r q : ℕ} → r ≡ hashOf seed key → q ≡ hashOf seed key → r ≡ q
+hash-unique seed key p t = p ∙ sym t
+
+pub filter-read-unique : {bytes answer after later : List ℕ} {r q : ℕ}
+    → FilterReadPost bytes answer r after → FilterReadPost bytes answer q later → (r ≡ q) × (after ≡ later)
+filter-read-unique p t = (p .number ∙ sym (t .number), p .words ∙ sym (t .words))
+
+pub filter-ask-unique : (bytes : List ℕ) (hash : ℕ) {r q : ℕ} → r ≡ filterAskOf bytes hash → q ≡ filterAskOf bytes hash → r ≡ q
+filter-ask-unique bytes hash p t = p ∙ sym t
+
+pub filter-ask-all-unique : {bytes hashes answers after later : List ℕ} {r q : ℕ}
+    → FilterAskAllPost bytes hashes answers r after → FilterAskAllPost bytes hashes answers q later → (r ≡ q) × (after ≡ later)
+filter-ask-all-unique p t = (p .number ∙ sym (t .number), p .numbers ∙ sym (t .numbers))
