@@ -1,24 +1,23 @@
 -- The input: which number it is refused with, what an input that is not refused holds, and the room that its text needs. Assumes nothing.
-use Prim.Native.Nat.{ℕ, zero, suc, _+_, _-_, _*_, _^_, _<_, _≤_}
+use Prim.Native.Nat.{ℕ, zero, suc, _-_, _*_, _^_, _<_, _≤_}
 use native.Mathlib.Nat.{suc-ne-zero}
 use native.Mathlib.Omega.{arith}
 use mathlib.Core.Path.{_≡_, refl, sym, ap, _∙_}
 use mathlib.Core.Bool.{Bool, true, false, cond}
-use mathlib.Core.List.{List, [], _∷_}
+use mathlib.Core.List.{List}
 use lib.Dec.{ltb}
 use lib.ListN.{length, take, drop, length-drop}
 use borrow.Rule.Slice.PartAt.{part-to-end}
 use borrow.Author.Tests.{ltb-false, lt-ltb, le-ltb}
 use Rattle.laws.specs.RefusalLaws.{orElse-zero}
 use Rattle.words.proofs.Laws.{AllBytes, bytes-drop, le-lt}
-use Rattle.text.specs.Text.{decimal}
 use Rattle.text.specs.Written.{Ends}
 use Rattle.text.proofs.TextLaws.{decimal-short}
 use Rattle.records.specs.declared.DataLength.the-variants.{Of}
 use Rattle.records.specs.Model.{tableBytes}
 use Rattle.point.specs.declared.Validated.{Validated}
 use Rattle.point.specs.declared.Validated.the-variants.{Accepted}
-use Rattle.point.specs.Layout.{keysIn, arenaIn}
+use Rattle.point.specs.Layout.{arenaIn}
 use Rattle.point.specs.Validate.{validationRefusal, verdict, validateOf, refusalNumber}
 use Rattle.point.specs.Table.{tableOf, keyPlace}
 use Rattle.point.proofs.HeaderLaws.{headed}
@@ -27,7 +26,7 @@ use Rattle.point.proofs.SlotLaws.{key-entered, holds-table}
 use Rattle.lines.specs.declared.Listed.{Listed}
 use Rattle.lines.specs.Shown.{Rule, newestTombstone}
 use Rattle.lines.specs.Listing.{tableText, refusedText, limitIn, dataLengthIn, bodyIn, sizeRefusal, listingRefusal, textBy, textOf, Lists, Listing}
-use Rattle.lines.specs.Needs.{AllStand, Whole}
+use Rattle.lines.specs.Needs.{Whole}
 use Rattle.lines.proofs.TextLaws.{refused-length}
 use Rattle.lines.proofs.RoomLaws.{table-length}
 

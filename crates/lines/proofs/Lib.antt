@@ -4,3 +4,5 @@ pub mod TextLaws
 pub mod RoomLaws
 pub mod InputLaws
 pub mod Theorems
+pub mod CountLaws
+pub mod Figures

@@ -1,14 +1,14 @@
 -- How long a listing is: a line is at most twice as long as its entry's bytes, and the header at most 80 bytes. Assumes nothing.
 use Prim.Native.Nat.{ℕ, _+_, _*_, _^_, _<_, _≤_}
 use native.Mathlib.Omega.{arith}
-use mathlib.Core.Path.{_≡_, refl, sym, ap, _∙_}
+use mathlib.Core.Path.{_≡_, refl, _∙_}
 use mathlib.Core.Bool.{Bool, true, false, cond}
 use mathlib.Core.List.{List, [], _∷_, _++_, append-nil, List·Memᴰ}
 use mathlib.Core.List.List·Memᴰ.{List·Memᴰ·head, List·Memᴰ·tail}
 use mathlib.Core.Option.{Option, none, some}
 use lib.ListN.{length, length-append}
 use Rattle.laws.specs.Each.{Each}
-use Rattle.laws.specs.Each.Each.{each-none, each-more}
+use Rattle.laws.specs.Each.Each.{each-more}
 use Rattle.words.specs.Part.{sameAs}
 use Rattle.text.specs.Text.{decimal, keyText, field, named}
 use Rattle.text.proofs.TextLaws.{decimal-length, decimal-short, key-length}

@@ -1,10 +1,10 @@
 -- The text of a listing: a function from input bytes to output bytes (document 01, "The listing").
-use Prim.Native.Nat.{ℕ, zero, suc, _≤_}
+use Prim.Native.Nat.{ℕ, zero, suc, _+_, _≤_}
 use mathlib.Core.Path.{_≡_}
 use mathlib.Core.Bool.{cond}
 use mathlib.Core.List.{List, [], _∷_, _++_}
 use mathlib.Core.Option.{Option, none, some}
-use lib.Dec.{ltb, leb}
+use lib.Dec.{ltb, leb, eqb}
 use lib.ListN.{length, drop}
 use Rattle.laws.specs.Refusals.{cause, firstOf, orElse}
 use Rattle.words.specs.Field.{le, splice}
@@ -43,6 +43,11 @@ kindWord Tombstone = 32 ∷ 116 ∷ 111 ∷ 109 ∷ 98 ∷ []
 
 abbrev pub newline : List ℕ
 newline = 10 ∷ []
+
+-- how many lines a text has: its newlines
+unfoldable pub lineCount : List ℕ → ℕ
+lineCount [] = 0
+lineCount (b ∷ bs) = cond (eqb b 10) 1 0 + lineCount bs
 
 -- a record's part of its line: sequence, `put` or `tomb`, offset, length
 unfoldable pub recordText : Record → List ℕ

@@ -4,14 +4,14 @@ use native.Mathlib.Nat.{pow-suc, not-suc-le-zero, suc-ne-zero}
 use native.Mathlib.Numerals.{add-one}
 use native.Mathlib.Omega.{arith}
 use mathlib.Core.Path.{_≡_, refl, sym, ap, _∙_}
-use mathlib.Core.Bool.{Bool, true, false}
+use mathlib.Core.Bool.{Bool, true, false, cond}
 use mathlib.Core.List.{List, [], _∷_, _++_, append-assoc}
 use lib.Dec.{ltb}
 use lib.ListN.{length, take, drop, set, length-append, length-drop, length-set}
 use lib.Seq.{drop-cons, getD-set-same, drop-set-lt}
 use borrow.Rule.Slice.PartAt.{part-to-end}
 use borrow.Author.Tests.{ltb-true, ltb-false, lt-ltb, le-ltb}
-use Rattle.text.specs.Text.{digitsIn, decimal, Laid, hexDigit, hexOf, keyText}
+use Rattle.text.specs.Text.{digitsIn, decimal, readFrom, Laid, hexOf, keyText}
 
 -- ---- decimal digits
 
@@ -49,6 +49,28 @@ decimal-length (suc k) n h = go (ltb n 10) refl (decimal-length k (n / 10))
 -- a number of 64 bits has at most 20 digits
 pub decimal-short : (n : ℕ) → n < 2 ^ 64 → length (decimal n) ≤ 20
 decimal-short n h = decimal-length 19 n (omega arith)
+
+read-last : (n : ℕ) (ds : List ℕ) (d : ℕ) → readFrom n (ds ++ (d ∷ [])) ≡ 10 * readFrom n ds + (d - 48)
+unfolding readFrom
+read-last n [] d = refl
+read-last n (x ∷ ds) d = read-last (10 * n + (x - 48)) ds d
+
+digits-read : (k n : ℕ) → n < k → readFrom 0 (digitsIn k n) ≡ n
+unfolding digitsIn readFrom
+digits-read zero n h = absurd (not-suc-le-zero h)
+digits-read (suc k) n h = go (ltb n 10) refl (digits-read k (n / 10))
+  where
+    go : (t : Bool) → ltb n 10 ≡ t → (n / 10 < k → readFrom 0 (digitsIn k (n / 10)) ≡ n / 10) → readFrom 0 (cond t ((48 + n) ∷ []) (digitsIn k (n / 10) ++ ((48 + n % 10) ∷ []))) ≡ n
+    go true e rest = omega arith
+    go false e rest =
+        let f = ltb-false n 10 e in
+        let r = rest (omega arith) in
+        omega (arith, read-last 0 (digitsIn k (n / 10)) (48 + n % 10))
+
+-- THEOREM: the decimal digits of a number, read, are the number
+pub decimal-read : (n : ℕ) → readFrom 0 (decimal n) ≡ n
+unfolding decimal
+decimal-read n = digits-read (suc n) n (omega arith)
 
 -- ---- hex
 

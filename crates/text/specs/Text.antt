@@ -1,5 +1,5 @@
 -- Numbers and byte strings as text, in ASCII.
-use Prim.Native.Nat.{ℕ, zero, suc, _+_, _/_, _%_, _<_}
+use Prim.Native.Nat.{ℕ, zero, suc, _+_, _-_, _*_, _/_, _%_, _<_}
 use mathlib.Core.Path.{_≡_}
 use mathlib.Core.Bool.{cond}
 use mathlib.Core.List.{List, [], _∷_, _++_}
@@ -14,6 +14,11 @@ digitsIn (suc steps) n = cond (ltb n 10) ((48 + n) ∷ []) (digitsIn steps (n / 
 -- the decimal digits of n: a number has no more of them than n + 1
 unfoldable pub decimal : ℕ → List ℕ
 decimal n = digitsIn (suc n) n
+
+-- the number that decimal digits stand for, behind n
+unfoldable pub readFrom : ℕ → List ℕ → ℕ
+readFrom n [] = n
+readFrom n (d ∷ ds) = readFrom (10 * n + (d - 48)) ds
 
 -- the digits of n stand at the end of an array of 20 bytes
 pub record Laid (n from : ℕ) (bytes : List ℕ) : Type 0 where

@@ -8,9 +8,9 @@ ghost use Rattle.text.specs.Text.{decimal, Laid, hexDigit, hexOf, keyTex
 ghost use Rattle.text.specs.Written.{Ends, Written};
 
 // The decimal digits of a number, at the end of an array.
-pub struct Digits {
-    pub bytes: [u8; 20],
-    pub from: usize,
+struct Digits {
+    bytes: [u8; 20],
+    from: usize,
 }
 
 // Stores a byte, if its place is in the buffer.
@@ -61,7 +61,7 @@ fn digits_of(n: u64) -> Digits
 }
 
 // Writes a number in decimal digits.
-pub fn put_decimal(out: &mut [u8], at: usize, n: u64) -> usize
+fn put_decimal(out: &mut [u8], at: usize, n: u64) -> usize
     requires { ⌜ Ends at (decimal n) ⌝ }
     ensures { λ r. ⌜ Written (now (out .entry)) at (decimal n) (now (out .exit)) r ⌝ }
 {

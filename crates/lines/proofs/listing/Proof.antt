@@ -1,6 +1,6 @@
 -- `listing` lists the refusal of the input, or its body. Assumes nothing.
 use native.Mathlib.Omega.{arith}
-use mathlib.Core.Path.{_≡_, refl, sym, ap, _∙_}
+use mathlib.Core.Path.{sym, _∙_}
 use Rattle.lines.proofs.InputLaws.{taken, taken-whole, taken-ends, refused-listing, table-listing}
 use borrow.Author.Needs.{needs}
 use Rattle.lines.proofs.listing.Statement.{statement}

@@ -1,6 +1,6 @@
 -- `put_entry` writes the line of an entry that shows a record, and nothing of any other. Assumes nothing.
 use native.Mathlib.Omega.{arith}
-use mathlib.Core.Path.{_≡_, refl, sym, ap, _∙_}
+use mathlib.Core.Path.{sym, _∙_}
 use Rattle.records.specs.Places.{entryAt}
 use Rattle.lines.specs.Shown.{newestTombstone, shown}
 use Rattle.lines.proofs.ShownLaws.{found-none, found-whole, key-part}

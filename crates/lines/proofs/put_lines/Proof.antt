@@ -2,7 +2,6 @@
 use native.Mathlib.Omega.{arith}
 use Rattle.point.specs.Table.{tableOf}
 use Rattle.lines.proofs.LinesLaws.{Going, going-first, stands-here, going-room, going-count, going-on, going-end}
-use borrow.Author.Needs.{needs}
 use Rattle.lines.proofs.put_lines.Statement.{statement}
 use Rattle.lines.proofs.put_lines.Tie as tie
 

@@ -1,7 +1,7 @@
 -- `digits_of` lays the digits down from the array's end. The loop's invariant: the digits of what is left, with those laid, are the number's. Assumes nothing.
 use Prim.Native.Nat.{_+_, _<_}
 use native.Mathlib.Omega.{arith}
-use mathlib.Core.Path.{_≡_, refl, sym, ap, _∙_}
+use mathlib.Core.Path.{_≡_, refl, _∙_}
 use mathlib.Core.List.{_++_, append-nil}
 use lib.ListN.{length, drop, length-set}
 use Rattle.text.specs.Text.{decimal}

@@ -1,0 +1,134 @@
+-- How many lines a text has: a number, a key and a word have no newline, so each line of the listing has one. Assumes nothing.
+use Prim.Native.Nat.{ℕ, zero, suc, _+_, _/_, _%_, _≤_}
+use native.Mathlib.Nat.{zero-add}
+use native.Mathlib.Omega.{arith}
+use mathlib.Core.Path.{_≡_, refl, sym, _∙_}
+use mathlib.Core.Bool.{Bool, true, false, cond}
+use mathlib.Core.List.{List, [], _∷_, _++_}
+use mathlib.Core.Option.{Option, none, some}
+use lib.Dec.{ltb}
+use lib.ListN.{length}
+use borrow.Author.Tests.{ne-eqb}
+use Rattle.text.specs.Text.{digitsIn, decimal, hexDigit, hexOf, keyText, field, named}
+use Rattle.records.specs.declared.Kind.{Kind}
+use Rattle.records.specs.declared.Kind.the-variants.{Put, Tombstone}
+use Rattle.records.specs.declared.Record.{Record}
+use Rattle.records.specs.Model.{Entry}
+use Rattle.lines.specs.Shown.{Rule, shown, shownOne, shownCount}
+use Rattle.lines.specs.Listing.{limitWord, keysWord, shownWord, kindWord, newline, lineCount, recordText, lineOf, lineFor, linesOf, headerOf, tableText}
+
+count-append : (xs ys : List ℕ) → lineCount (xs ++ ys) ≡ lineCount xs + lineCount ys
+unfolding lineCount
+count-append [] ys = sym (zero-add (lineCount ys))
+count-append (x ∷ xs) ys = omega (arith, count-append xs ys)
+
+-- a byte from 48 on is no newline
+count-high : (b : ℕ) (bs : List ℕ) → 48 ≤ b → lineCount (b ∷ bs) ≡ lineCount bs
+unfolding lineCount
+count-high b bs h = rw (ne-eqb b 10 (λ e. omega arith)) (zero-add (lineCount bs))
+
+empty-count : lineCount [] ≡ 0
+unfolding lineCount
+empty-count = refl
+
+-- ---- the pieces
+
+count-digits : (steps n : ℕ) → lineCount (digitsIn steps n) ≡ 0
+unfolding digitsIn
+count-digits zero n = empty-count
+count-digits (suc k) n = go (ltb n 10) (count-digits k (n / 10))
+  where
+    go : (t : Bool) → lineCount (digitsIn k (n / 10)) ≡ 0 → lineCount (cond t ((48 + n) ∷ []) (digitsIn k (n / 10) ++ ((48 + n % 10) ∷ []))) ≡ 0
+    go true r = count-high (48 + n) [] (omega arith) ∙ empty-count
+    go false r =
+        omega
+        (arith, count-append (digitsIn k (n / 10)) ((48 + n % 10) ∷ []), r, count-high (48 + n % 10) [] (omega arith), empty-count)
+
+count-field : (n : ℕ) → lineCount (field n) ≡ 0
+unfolding field decimal lineCount
+count-field n = omega (arith, count-digits (suc n) n)
+
+count-named : (word : List ℕ) (n : ℕ) → lineCount (named word n) ≡ lineCount word
+unfolding named
+count-named word n = omega (arith, count-append word (field n), count-field n)
+
+digit-high : (d : ℕ) → 48 ≤ hexDigit d
+digit-high d = go (ltb d 10)
+  where
+    go : (t : Bool) → 48 ≤ cond t (48 + d) (87 + d)
+    go true = omega arith
+    go false = omega arith
+
+count-hex : (bytes : List ℕ) → lineCount (hexOf bytes) ≡ 0
+unfolding hexOf
+count-hex [] = empty-count
+count-hex (b ∷ bs) =
+    count-high (hexDigit (b / 16)) (hexDigit (b % 16) ∷ hexOf bs) (digit-high (b / 16))
+    ∙ count-high (hexDigit (b % 16)) (hexOf bs) (digit-high (b % 16))
+    ∙ count-hex bs
+
+dash-count : lineCount (45 ∷ []) ≡ 0
+unfolding lineCount
+dash-count = refl
+
+count-key : (key : List ℕ) → lineCount (keyText key) ≡ 0
+unfolding keyText
+count-key [] = dash-count
+count-key (b ∷ bs) = count-hex (b ∷ bs)
+
+count-kind : (k : Kind) → lineCount (kindWord k) ≡ 0
+unfolding lineCount
+count-kind Put = refl
+count-kind Tombstone = refl
+
+-- ---- the lines
+
+count-newline : lineCount newline ≡ 1
+unfolding lineCount
+count-newline = refl
+
+count-line : (key : List ℕ) (r : Record) → lineCount (lineOf key r) ≡ 1
+unfolding lineOf recordText
+count-line key r =
+    let k = kindWord (r .kind) in
+    let o = field (r .offset) in
+    let l = field (r .length) in
+    let e₀ = count-append (keyText key) (field (r .sequence) ++ (k ++ (o ++ (l ++ newline)))) in
+    let e₁ = count-append (field (r .sequence)) (k ++ (o ++ (l ++ newline))) in
+    let e₂ = count-append k (o ++ (l ++ newline)) in
+    let e₃ = count-append o (l ++ newline) in
+    let e₄ = count-append l newline in
+    omega
+    (arith, count-key key, count-field (r .sequence), count-kind (r .kind), count-field (r .offset), count-field (r .length), count-newline)
+
+count-for : (key : List ℕ) (o : Option Record) → lineCount (lineFor key o) ≡ shownOne o
+count-for key none = empty-count
+count-for key (some r) = count-line key r
+
+-- THEOREM: S is the number of lines that follow the header
+pub lines-counted : (rule : Rule) (limit : ℕ) (t : List Entry) → lineCount (linesOf rule limit t) ≡ shownCount rule limit t
+unfolding linesOf shownCount
+lines-counted rule limit [] = empty-count
+lines-counted rule limit (e ∷ es) =
+    omega
+    (arith, count-append (lineFor (e .key) (shown rule limit e)) (linesOf rule limit es), count-for (e .key) (shown rule limit e), lines-counted rule limit es)
+
+words-counted : (lineCount limitWord ≡ 0) × (lineCount keysWord ≡ 0) × (lineCount shownWord ≡ 0)
+unfolding lineCount
+words-counted = (refl, refl, refl)
+
+count-header : (limit keys count : ℕ) → lineCount (headerOf limit keys count) ≡ 1
+unfolding headerOf
+count-header limit keys count =
+    let e₀ = count-append (named limitWord limit) (named keysWord keys ++ (named shownWord count ++ newline)) in
+    let e₁ = count-append (named keysWord keys) (named shownWord count ++ newline) in
+    let e₂ = count-append (named shownWord count) newline in
+    omega
+    (arith, count-named limitWord limit, count-named keysWord keys, count-named shownWord count, words-counted .0, words-counted .1, words-counted .2, count-newline)
+
+-- THEOREM: and the listing has one line more, the header
+pub listing-counted : (rule : Rule) (limit : ℕ) (t : List Entry) → lineCount (tableText rule limit t) ≡ 1 + shownCount rule limit t
+unfolding tableText
+listing-counted rule limit t =
+    omega
+    (arith, count-append (headerOf limit (length t) (shownCount rule limit t)) (linesOf rule limit t), count-header limit (length t) (shownCount rule limit t), lines-counted rule limit t)
