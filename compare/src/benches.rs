@@ -1,8 +1,12 @@
 //! The timings: one file a call, one line of `ALL` each. Medians of rounds in which ours and the Rust's runs take turns.
 mod filter;
+mod get;
 mod hash;
 mod mix;
+mod validate;
 
+use oracle::Rng;
+use oracle::lines::{Rec, rust_builder};
 use std::hint::black_box;
 use std::time::Instant;
 
@@ -29,7 +33,28 @@ const fn entry<B: Bench>() -> Entry {
     Entry { name: B::NAME, run: run::<B> }
 }
 
-pub const ALL: &[Entry] = &[entry::<mix::Mix>(), entry::<hash::Hash>(), entry::<filter::Ask>()];
+pub const ALL: &[Entry] = &[
+    entry::<mix::Mix>(),
+    entry::<hash::Hash>(),
+    entry::<validate::Validate>(),
+    entry::<get::Hit>(),
+    entry::<get::Miss>(),
+    entry::<filter::Ask>(),
+];
+
+/// Records of so many keys of 16 bytes, one version of 8 bytes each.
+fn records(keys: usize) -> Vec<Rec> {
+    let mut r = Rng(keys as u64);
+    let mut drawn: Vec<Vec<u8>> = (0..keys).map(|_| r.bytes(16)).collect();
+    drawn.sort();
+    let record = |(i, key)| Rec { new: true, kind: 1, key, seq: i as u64, len: 8, offset: 8 * i as u64 };
+    drawn.into_iter().enumerate().map(record).collect()
+}
+/// Their body, made by the Rust, and the keys.
+fn body(keys: usize) -> (Vec<u8>, Vec<Vec<u8>>) {
+    let recs = records(keys);
+    (rust_builder(&recs).unwrap().finish().unwrap(), recs.into_iter().map(|x| x.key).collect())
+}
 
 /// How long one timed row of runs should take, in ns: short, so that few rows are interrupted.
 const ROW: f64 = 1e5;

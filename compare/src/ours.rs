@@ -2,16 +2,59 @@
 mod c {
     unsafe extern "C" {
         pub safe fn kiban_mix(h: u64) -> u64;
-        pub fn kiban_hash(key: *const u8, length: usize, seed: u64) -> u64;
-        pub fn kiban_filter_read(bytes: *const u8, length: usize, answer: *mut u64, words: usize) -> u64;
-        pub fn kiban_filter_ask(bytes: *const u8, length: usize, hash: u64) -> u64;
+        pub fn kiban_hash(key: *const u8, n: usize, seed: u64) -> u64;
+        pub fn kiban_add(
+            buffer: *mut u8,
+            buffer_n: usize,
+            state: *mut u64,
+            state_n: usize,
+            key: *const u8,
+            key_n: usize,
+            kind: u8,
+            length: u64,
+            sequence: u64,
+            new_key: u8,
+            answer: *mut u64,
+            answer_n: usize,
+        ) -> u64;
+        pub fn kiban_set_offset(
+            buffer: *mut u8,
+            buffer_n: usize,
+            state: *const u64,
+            state_n: usize,
+            place: u64,
+            offset: u64,
+        ) -> u64;
+        pub fn kiban_validate(body: *const u8, body_n: usize, data_length: u64) -> u64;
+        pub fn kiban_get(
+            body: *const u8,
+            body_n: usize,
+            data: *const u8,
+            data_n: usize,
+            key: *const u8,
+            key_n: usize,
+            limited: u8,
+            limit: u64,
+            answer: *mut u64,
+            answer_n: usize,
+        ) -> u64;
+        pub fn kiban_filter_read(bytes: *const u8, n: usize, answer: *mut u64, answer_n: usize) -> u64;
+        pub fn kiban_filter_ask(bytes: *const u8, n: usize, hash: u64) -> u64;
         pub fn kiban_filter_ask_all(
             bytes: *const u8,
-            length: usize,
+            n: usize,
             hashes: *const u64,
-            asked: usize,
+            hashes_n: usize,
             answers: *mut u8,
-            lent: usize,
+            answers_n: usize,
+        ) -> u64;
+        pub fn kiban_listing(
+            input: *const u8,
+            n: usize,
+            out: *mut u8,
+            out_n: usize,
+            answer: *mut u64,
+            answer_n: usize,
         ) -> u64;
     }
 }
@@ -21,6 +64,57 @@ pub fn mix(h: u64) -> u64 {
 }
 pub fn hash(key: &[u8], seed: u64) -> u64 {
     unsafe { c::kiban_hash(key.as_ptr(), key.len(), seed) }
+}
+#[allow(clippy::too_many_arguments)]
+pub fn add(
+    buffer: &mut [u8],
+    state: &mut [u64],
+    key: &[u8],
+    kind: u8,
+    length: u64,
+    sequence: u64,
+    new_key: u8,
+    answer: &mut [u64],
+) -> u64 {
+    unsafe {
+        c::kiban_add(
+            buffer.as_mut_ptr(),
+            buffer.len(),
+            state.as_mut_ptr(),
+            state.len(),
+            key.as_ptr(),
+            key.len(),
+            kind,
+            length,
+            sequence,
+            new_key,
+            answer.as_mut_ptr(),
+            answer.len(),
+        )
+    }
+}
+pub fn set_offset(buffer: &mut [u8], state: &[u64], place: u64, offset: u64) -> u64 {
+    unsafe { c::kiban_set_offset(buffer.as_mut_ptr(), buffer.len(), state.as_ptr(), state.len(), place, offset) }
+}
+pub fn validate(body: &[u8], data_length: u64) -> u64 {
+    unsafe { c::kiban_validate(body.as_ptr(), body.len(), data_length) }
+}
+pub fn get(body: &[u8], data: &[u8], key: &[u8], limit: Option<u64>, answer: &mut [u64]) -> u64 {
+    let (limited, limit) = (limit.is_some() as u8, limit.unwrap_or(0));
+    unsafe {
+        c::kiban_get(
+            body.as_ptr(),
+            body.len(),
+            data.as_ptr(),
+            data.len(),
+            key.as_ptr(),
+            key.len(),
+            limited,
+            limit,
+            answer.as_mut_ptr(),
+            answer.len(),
+        )
+    }
 }
 pub fn filter_read(bytes: &[u8], answer: &mut [u64]) -> u64 {
     unsafe { c::kiban_filter_read(bytes.as_ptr(), bytes.len(), answer.as_mut_ptr(), answer.len()) }
@@ -38,5 +132,10 @@ pub fn filter_ask_all(bytes: &[u8], hashes: &[u64], answers: &mut [u8]) -> u64 {
             answers.as_mut_ptr(),
             answers.len(),
         )
+    }
+}
+pub fn listing(input: &[u8], out: &mut [u8], answer: &mut [u64]) -> u64 {
+    unsafe {
+        c::kiban_listing(input.as_ptr(), input.len(), out.as_mut_ptr(), out.len(), answer.as_mut_ptr(), answer.len())
     }
 }

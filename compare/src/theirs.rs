@@ -1,5 +1,10 @@
-//! The Rust, one function for each of ours. Not inlined, as a call of ours can't be.
-use oracle::{rf, rp};
+//! The Rust, one function for each of ours, with the paper's refusals where the Rust has none and those of the boundary
+//! (DECISIONS.md): a short answer 6, a short state 1, a bad kind 28. Not inlined, as a call of ours can't be.
+use oracle::lines::get_both;
+use oracle::{data, paper, rf, rp};
+
+/// Values to be added: only their length matters.
+static VALUE: [u8; 16_777_217] = [0; 16_777_217];
 
 #[inline(never)]
 pub fn mix(h: u64) -> u64 {
@@ -8,6 +13,93 @@ pub fn mix(h: u64) -> u64 {
 #[inline(never)]
 pub fn hash(key: &[u8], seed: u64) -> u64 {
     rp::hash(key, seed)
+}
+
+fn state(words: &[u64]) -> paper::State {
+    paper::State { used: words[0], keys: words[1], head: words[2] }
+}
+#[allow(clippy::too_many_arguments)]
+pub fn add(
+    buffer: &mut [u8],
+    words: &[u64],
+    key: &[u8],
+    kind: u8,
+    length: u64,
+    sequence: u64,
+    new_key: u8,
+    answers: usize,
+) -> Result<(paper::State, u64), u64> {
+    if answers < 1 {
+        return Err(6);
+    }
+    if words.len() < 3 {
+        return Err(1);
+    }
+    if kind != 1 && kind != 2 {
+        return Err(28);
+    }
+    paper::add(state(words), buffer, new_key != 0, kind, key, length, sequence).map_err(|n| n as u64)
+}
+pub fn set_offset(buffer: &mut [u8], words: &[u64], place: u64, offset: u64) -> u64 {
+    if words.len() < 3 {
+        return 1;
+    }
+    paper::set_offset(state(words), buffer, place, offset).err().unwrap_or(0) as u64
+}
+/// The Rust's builder, beside the paper's on a buffer, which says what is refused.
+pub struct Builder {
+    theirs: rp::Legacy,
+    state: paper::State,
+    buffer: Vec<u8>,
+}
+impl Builder {
+    pub fn new(buffer: Vec<u8>) -> Self {
+        Builder { theirs: rp::Legacy::new(), state: paper::State::default(), buffer }
+    }
+    /// The Rust's place of the record's offset, or the paper's refusal; 2 is the Rust's too.
+    pub fn add(&mut self, key: &[u8], kind: u8, length: u64, sequence: u64, new_key: bool) -> Result<u64, u64> {
+        let taken = paper::add(self.state, &mut self.buffer, new_key, kind, key, length, sequence);
+        if !matches!(taken, Ok(_) | Err(2)) {
+            return Err(taken.unwrap_err() as u64);
+        }
+        let value = &VALUE[..length.min(VALUE.len() as u64) as usize];
+        let place = self.theirs.add(oracle::Kind::from_u8(kind).expect("kind"), key, value, sequence, new_key);
+        self.state = taken.map_or(self.state, |t| t.0);
+        place.map(|p| p as u64).map_err(|_| 2)
+    }
+    pub fn set_offset(&mut self, place: u64, offset: u64) -> u64 {
+        match paper::set_offset(self.state, &mut self.buffer, place, offset) {
+            Ok(()) => self.theirs.set_value_offset(place as usize, offset),
+            Err(number) => return number as u64,
+        }
+        0
+    }
+    pub fn arena(&self) -> &[u8] {
+        self.theirs.arena()
+    }
+    /// The Rust's: bytes used, keys, and the last one's place.
+    pub fn state(&self) -> [u64; 3] {
+        let heads = self.theirs.heads();
+        [self.arena().len() as u64, heads.len() as u64, heads.last().copied().unwrap_or(0) as u64]
+    }
+}
+/// The Rust's validation; the paper's where the data is longer than a slice that can be lent here.
+pub fn validate(body: &[u8], data: u64) -> u64 {
+    if data <= 1 << 30 { rp::validate_number(body, data as usize) as u64 } else { paper::validate(body, data) as u64 }
+}
+/// Kind, sequence, offset and length, or 1 for nothing, or 14: the Rust's, with the paper's offset, on every body.
+pub fn get(body: &[u8], length: u64, key: &[u8], limit: Option<u64>, answers: usize) -> Result<[u64; 4], u64> {
+    if answers < 4 {
+        return Err(6);
+    }
+    let (answer, rust) = get_both(body, data(length as usize), key, limit);
+    let past = rp::validate_number(body, length as usize) == 22;
+    assert!(rust == "same" || past, "the paper says {answer:?}, the {rust}");
+    match answer {
+        paper::Answer::Nothing => Err(1),
+        paper::Answer::Damage => Err(14),
+        paper::Answer::Found { kind, seq, offset, length } => Ok([kind as u64, seq, offset, length]),
+    }
 }
 pub fn filter_accepted(bytes: &[u8]) -> bool {
     rf::Filter::decode(bytes).is_some()
@@ -21,4 +113,9 @@ pub fn filter_fields(bytes: &[u8]) -> [u64; 6] {
 }
 pub fn filter_ask(bytes: &[u8], hash: u64) -> u64 {
     rf::Filter::decode(bytes).map_or(15, |f| f.maybe(hash) as u64)
+}
+/// The paper's text: the Rust has no listing.
+pub fn listing(input: &[u8], out: usize, answers: usize) -> Result<String, u64> {
+    let text = paper::listing(input);
+    if answers < 1 || out < text.len() { Err(6) } else { Ok(text) }
 }

@@ -1,5 +1,69 @@
-//! What several calls draw: hashes, lengths around a needed one; lent memory that isn't zero.
+//! What several calls draw: record lists, their bodies, whole and damaged; hashes; lengths; lent memory that isn't zero.
 use oracle::Rng;
+use oracle::check::{damage, random_list};
+use oracle::lines::{Rec, rust_builder, rust_finish, rust_finish_arena};
+
+/// The data length that the example's records need.
+pub const EXAMPLE_DATA: u64 = 116;
+
+/// Document 01's example: its body cut at every place, with each byte changed in four ways, and with one more byte; its
+/// pilot made a direct one, of the last slot and of the one past it; its second key made the first.
+pub fn example_bodies() -> Vec<Vec<u8>> {
+    let whole = rust_finish(&oracle::check::example()).unwrap();
+    let changed = |at: usize, bytes: &[u8]| {
+        let mut body = whole.clone();
+        body[at..at + bytes.len()].copy_from_slice(bytes);
+        body
+    };
+    let cuts = (0..=whole.len()).map(|n| whole[..n].to_vec());
+    let bytes = (0..whole.len()).flat_map(|at| [whole[at] ^ 1, whole[at] ^ 128, 0, 255].map(|b| changed(at, &[b])));
+    let longer = [&whole[..], &[0]].concat();
+    let direct = [2u32, 3].map(|slot| changed(32, &((1 << 31) + slot).to_le_bytes()));
+    cuts.chain(bytes).chain([longer]).chain(direct).chain([changed(131, b"A")]).collect()
+}
+
+/// A list that add takes, and the length of the data, in which its records lie.
+pub fn list(r: &mut Rng) -> (Vec<Rec>, u64) {
+    let keys = match r.below(12) {
+        0..3 => 1 + r.below(3),
+        3..10 => 1 + r.below(30),
+        10 => 40 + r.below(200),
+        _ => 200 + r.below(800),
+    };
+    let data = [0, 1, 8, 100, 1000][r.below(5) as usize];
+    let style = r.next();
+    (random_list(r, keys as usize, data, style), data)
+}
+
+/// A body that finish made, the length of its data, and its records.
+pub fn body(r: &mut Rng) -> (Vec<u8>, u64, Vec<Rec>) {
+    loop {
+        let (recs, data) = list(r);
+        if let Ok(body) = rust_finish_arena(rust_builder(&recs).unwrap().arena()) {
+            return (body, data, recs);
+        }
+    }
+}
+
+/// The front of one body and the rest of another, or of itself from another place.
+fn spliced(r: &mut Rng, body: &[u8]) -> Vec<u8> {
+    let other = if r.below(2) == 0 { body.to_vec() } else { self::body(r).0 };
+    let at = r.below(body.len() as u64) as usize;
+    let from = if r.below(2) == 0 { at.min(other.len()) } else { r.below(other.len() as u64) as usize };
+    [&body[..at], &other[from..]].concat()
+}
+
+/// The same, damaged three times in four.
+pub fn any_body(r: &mut Rng) -> (Vec<u8>, u64, Vec<Rec>) {
+    let (body, data, recs) = body(r);
+    let seen = if r.below(4) == 0 { r.below(data + 2) } else { data };
+    let body = match r.below(8) {
+        0 | 1 => body,
+        2 => spliced(r, &body),
+        _ => damage(r, &body),
+    };
+    (body, seen, recs)
+}
 
 /// Hashes: random, close together, or with two that are equal.
 pub fn hashes(r: &mut Rng) -> Vec<u64> {

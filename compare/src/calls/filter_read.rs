@@ -51,8 +51,9 @@ impl Call for FilterRead {
     type Answer = Answer;
     const NAME: &'static str = "kiban_filter_read, ask";
     const ONE_IN: u64 = 20;
+    const MET: &'static [u64] = &[0, 6, 15];
 
-    /// Positive, whole and with a cell; Fuse at each edge of its fields, and one past it.
+    /// Positive, whole and with a cell; Fuse at each edge of its fields, and one past it; answers too short.
     fn fixed() -> Vec<Case> {
         let positive = oracle::paper::positive();
         let most = u32::MAX as u64;
@@ -78,8 +79,10 @@ impl Call for FilterRead {
         ];
         let fuses =
             fuses.map(|(keys, segment, count, cells, again, length)| fuse(keys, segment, count, cells, again, length));
+        let ask = |bytes, answers, asked| Case { bytes, hashes: vec![0, 1, u64::MAX], answers, asked };
+        let short = [ask(positive.clone(), 5, 3), ask(positive.clone(), 6, 2)];
         let bytes = [positive.clone(), [positive, vec![0]].concat(), Vec::new()].into_iter().chain(fuses);
-        bytes.map(|bytes| Case { bytes, hashes: vec![0, 1, u64::MAX], answers: 6, asked: 3 }).collect()
+        bytes.map(|bytes| ask(bytes, 6, 3)).chain(short).collect()
     }
     fn draw(r: &mut Rng) -> Case {
         let mut hashes = drawn::hashes(r);
@@ -116,7 +119,7 @@ impl Call for FilterRead {
         }
         Answer { number, answer, each, all, all_answers }
     }
-    fn number(a: &Answer) -> Option<u64> {
-        Some(a.number)
+    fn numbers(a: &Answer) -> Vec<u64> {
+        vec![a.number, a.all]
     }
 }
