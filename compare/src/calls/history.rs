@@ -59,7 +59,8 @@ fn changed(r: &mut Rng, step: &mut Step) {
         Step::SetOffset { past, .. } => *past = [1, 8, u64::MAX, r.next()][r.below(4) as usize],
         Step::Add { key, kind, length, sequence, new_key } => match r.below(6) {
             0 => *new_key ^= 1,
-            1 => *length = [16_777_216, 16_777_217, u64::MAX][r.below(3) as usize],
+            1 if r.below(40) == 0 => *length = 16_777_216,
+            1 => *length = [16_777_217, u64::MAX][r.below(2) as usize],
             2 => (*kind, *length) = (2, r.below(2)),
             3 => _ = key.pop(),
             4 => *sequence = sequence.wrapping_add(1 + r.next() % 100),
@@ -79,7 +80,7 @@ impl Call for History {
     /// As many keys as there may be, and one more; each other refusal once.
     fn fixed() -> Vec<Case> {
         let add = |key: Vec<u8>, kind, length, sequence, new_key| Step::Add { key, kind, length, sequence, new_key };
-        let keys = (0..65_537u32).map(|i| add(i.to_be_bytes().to_vec(), 1, i as u64, i as u64, 1)).collect();
+        let keys = (0..65_537u32).map(|i| add(i.to_be_bytes().to_vec(), 1, i as u64 % 9, i as u64, 1)).collect();
         let refused = vec![
             Step::SetOffset { past: 0, offset: 1 },
             add(vec![5], 1, 1, 9, 0),
