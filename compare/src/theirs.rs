@@ -87,13 +87,14 @@ impl Builder {
 pub fn validate(body: &[u8], data: u64) -> u64 {
     if data <= 1 << 30 { rp::validate_number(body, data as usize) as u64 } else { paper::validate(body, data) as u64 }
 }
-/// Kind, sequence, offset and length, or 1 for nothing, or 14: the Rust's, with the paper's offset, on every body.
+/// Kind, sequence, offset and length, or 1 for nothing, or 14: the Rust's, with the paper's offset; the paper's 14 where
+/// the Rust goes on with a direct pilot at or past n.
 pub fn get(body: &[u8], length: u64, key: &[u8], limit: Option<u64>, answers: usize) -> Result<[u64; 4], u64> {
     if answers < 4 {
         return Err(6);
     }
     let (answer, rust) = get_both(body, data(length as usize), key, limit);
-    let past = rp::validate_number(body, length as usize) == 22;
+    let past = answer == paper::Answer::Damage && rp::validate_number(body, length as usize) == 22;
     assert!(rust == "same" || past, "the paper says {answer:?}, the {rust}");
     match answer {
         paper::Answer::Nothing => Err(1),
