@@ -1,4 +1,5 @@
 pub mod BuildLaws
 pub mod FilterCallLaws
+pub mod FinishingLaws
 mod ReadingLaws
 pub mod UniqueLaws

@@ -1,4 +1,5 @@
 pub mod Build
 pub mod FilterCalls
+pub mod Finishing
 pub mod Lent
 pub mod Reading
