@@ -1,7 +1,7 @@
 //! What several calls draw: record lists, their bodies, whole and damaged; hashes; lengths; lent memory that isn't zero.
-use oracle::Rng;
 use oracle::check::{damage, random_list};
 use oracle::lines::{Rec, rust_builder, rust_finish, rust_finish_arena};
+use oracle::{Rng, paper};
 
 /// The data length that the example's records need.
 pub const EXAMPLE_DATA: u64 = 116;
@@ -20,6 +20,28 @@ pub fn example_bodies() -> Vec<Vec<u8>> {
     let longer = [&whole[..], &[0]].concat();
     let direct = [2u32, 3].map(|slot| changed(32, &((1 << 31) + slot).to_le_bytes()));
     cuts.chain(bytes).chain([longer]).chain(direct).chain([changed(131, b"A")]).collect()
+}
+
+/// A body of one key with one put, and the length of its data: key, value length and offset at their limits and past them.
+pub fn edge_bodies() -> Vec<(Vec<u8>, u64)> {
+    let body = |key: &[u8], length: u32, offset: u64| {
+        let seed = paper::seed_of(0);
+        let mut body = b"KIBANPH2".to_vec();
+        body.extend(seed.to_le_bytes());
+        [1, 1, 48, 0, 1 << 31, 0, 0].iter().for_each(|x: &u32| body.extend(x.to_le_bytes()));
+        body.extend((paper::fingerprint(paper::hash(key, seed)) as u32).to_le_bytes());
+        [key.len() as u32, 1].iter().for_each(|x| body.extend(x.to_le_bytes()));
+        body.extend(key);
+        body.extend(7u64.to_le_bytes());
+        body.push(1);
+        body.extend(length.to_le_bytes());
+        body.extend(offset.to_le_bytes());
+        body
+    };
+    let most = 16_777_216;
+    let values = [(most, 0), (most, 1), (most + 1, 0), (0, 16_777_217), (0, 16_777_218), (1, u64::MAX), (0, u64::MAX)];
+    let keys = [0, 1, 1_048_576, 1_048_577].map(|n| (body(&vec![7; n], 0, 0), 0));
+    keys.into_iter().chain(values.map(|(length, offset)| (body(b"K", length, offset), 16_777_217))).collect()
 }
 
 /// A list that add takes, and the length of the data, in which its records lie.
