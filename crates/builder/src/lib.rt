@@ -13,6 +13,7 @@ ghost use Rattle.builder.specs.Add.{withdrawnWithValue, rises, newCauses
 ghost use Rattle.builder.specs.SetOffset.{SetPost};
 use records::Kind;
 use records::Record;
+use records::cursor::Head;
 
 // The state of a builder: the arena's used bytes, its keys, and where the last key's entry starts.
 pub struct PointBuilder {
@@ -87,12 +88,7 @@ fn key_at(arena: &[u8], head: usize) -> &[u8]
 impl PointBuilder {
     pub const MAX_KEYS: usize = 65_536;
 
-    pub const MAX_KEY: usize = 1_048_576;
-
     pub const MAX_VERSIONS: u32 = 4_294_967_295;
-
-    // The bytes of an entry before its key.
-    pub const HEAD: usize = 8;
 
     // The builder that nothing was added to.
     pub fn empty() -> PointBuilder
@@ -120,21 +116,21 @@ impl PointBuilder {
         if buffer.len() < used {
             return false;
         }
-        if used < PointBuilder::HEAD {
+        if used < Head::BYTES {
             return false;
         }
-        if used - PointBuilder::HEAD < head {
+        if used - Head::BYTES < head {
             return false;
         }
         let key = words::field::u32_at(buffer, head) as usize;
         let versions = words::field::u32_at(buffer, head + 4) as usize;
-        if PointBuilder::MAX_KEY < key {
+        if (Head::MAX_KEY as usize) < key {
             return false;
         }
         if versions == 0 {
             return false;
         }
-        if used - PointBuilder::HEAD - head != key + Record::BYTES * versions {
+        if used - Head::BYTES - head != key + Record::BYTES * versions {
             return false;
         }
         true
@@ -168,7 +164,7 @@ impl PointBuilder {
         if PointBuilder::MAX_KEYS <= self.keys {
             return 5;
         }
-        if buffer.len() - used < PointBuilder::HEAD + Record::BYTES + key.len() {
+        if buffer.len() - used < Head::BYTES + Record::BYTES + key.len() {
             return 6;
         }
         0
@@ -214,7 +210,7 @@ impl PointBuilder {
         if !self.fits(buffer) {
             return 1;
         }
-        if PointBuilder::MAX_KEY < key.len() {
+        if (Head::MAX_KEY as usize) < key.len() {
             return 2;
         }
         if (Record::MAX_VALUE as u64) < length {
@@ -240,7 +236,7 @@ impl PointBuilder {
         words::field::put_u32(buffer, used + 4, 1);
         words::part::copy_at(buffer, used + 8, key);
         put_version(buffer, used + 8 + size, version);
-        let end = used + PointBuilder::HEAD + size + Record::BYTES;
+        let end = used + Head::BYTES + size + Record::BYTES;
         let next = PointBuilder {
             used: end,
             keys: self.keys + 1,

@@ -2,7 +2,7 @@
 use mathlib.Core.Path.{_≡_, refl}
 use mathlib.Core.List.{List, [], _∷_}
 use Prim.Native.Nat.{ℕ, _-_, _^_}
-use Rattle.fuse.specs.Positions.{firstOf, cellOf, positionsOf}
+use Rattle.fuse.specs.Positions.{firstCell, cellOf, positionsOf}
 use Rattle.sizing.specs.Table.{firsts, segments}
 use Rattle.sizing.specs.Sizing.{rule, greatest, exponentOf, segmentOf, upTo, segmentsOf, cellsOf}
 
@@ -21,5 +21,5 @@ pub record Figures : Type 0 where
   pub P9 : positionsOf 2 6 (2 ^ 64 - 1) ≡ 11 ∷ 12 ∷ 14 ∷ 16 ∷ []
 
 pub figures : Figures
-unfolding sizeOf segmentOf segmentsOf cellsOf exponentOf greatest rule upTo firsts segments positionsOf cellOf firstOf
+unfolding sizeOf segmentOf segmentsOf cellsOf exponentOf greatest rule upTo firsts segments positionsOf cellOf firstCell
 figures = record { P4-one = refl; P4-two = refl; P4-three = refl; P5 = refl; P6 = refl; P7 = refl; P8 = refl; P9 = refl }

@@ -16,13 +16,13 @@ pub record Usable (segment count : ℕ) : Type 0 where
   pub small : cellsIn segment count < 2 ^ 32
 
 -- a: the whole part of h × count × segment / 2^64
-unfoldable pub firstOf : (segment count h : ℕ) → ℕ
-firstOf segment count h = h * (count * segment) / 2 ^ 64
+unfoldable pub firstCell : (segment count h : ℕ) → ℕ
+firstCell segment count h = h * (count * segment) / 2 ^ 64
 
 -- position i: a, or (a + i × segment) xor (w mod segment), with w = h, h/2^16, h/2^32 for i = 1, 2, 3
 unfoldable pub cellOf : (segment count h i : ℕ) → ℕ
-cellOf segment count h zero = firstOf segment count h
-cellOf segment count h (suc i) = bitXor (firstOf segment count h + suc i * segment) (h / 2 ^ (16 * i) % segment)
+cellOf segment count h zero = firstCell segment count h
+cellOf segment count h (suc i) = bitXor (firstCell segment count h + suc i * segment) (h / 2 ^ (16 * i) % segment)
 
 -- all four, in position order
 unfoldable pub positionsOf : (segment count h : ℕ) → List ℕ

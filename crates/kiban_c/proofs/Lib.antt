@@ -1,5 +1,6 @@
 pub mod BuildLaws
 pub mod FilterCallLaws
+pub mod FinishingLaws
 mod ListingLaws
 mod ReadingLaws
 pub mod UniqueLaws

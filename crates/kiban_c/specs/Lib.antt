@@ -1,5 +1,6 @@
 pub mod Build
 pub mod FilterCalls
+pub mod Finishing
 pub mod Lent
 pub mod Reading
 pub mod Listing

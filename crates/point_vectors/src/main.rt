@@ -20,51 +20,11 @@ struct Tally {
     body: usize,
 }
 
-// Writes a byte, where its place is inside.
-fn put(out: &mut [u8], at: usize, value: u8) {
-    if at < out.len() {
-        out[at] = value;
-    }
-}
-
-// Writes the patches of a payload: u8 count at 4, then u32 place and u8 value each.
-fn put_patches(p: &[u8], out: &mut [u8]) {
-    let count = vectors::u8_in(p, 4) as usize;
-    for i in 0..count {
-        let at = vectors::u32_in(p, 5 + 5 * i) as usize;
-        put(out, at, vectors::u8_in(p, 9 + 5 * i));
-    }
-}
-
-// The byte of a body at a place, or A5 past its end.
-fn byte_of(base: &[u8], i: usize) -> u8 {
-    if i < base.len() { base[i] } else { 0xa5 }
-}
-
-// The base body at the length that stands first in a payload, cut or lengthened with bytes A5, and patched; and that length.
-fn patched(base: &[u8], p: &[u8], out: &mut [u8]) -> usize
-    ensures { λ r. ⌜ r ≤ length (now (out .entry)) ⌝ }
-{
-    let size = words::wide::min(vectors::u32_in(p, 0) as usize, out.len());
-    for i in 0..size {
-        out[i] = byte_of(base, i);
-    }
-    put_patches(p, out);
-    size
-}
-
-// The place after the patches of a payload.
-fn after_patches(p: &[u8]) -> usize
-    ensures { λ r. ⌜ r ≤ 1280 ⌝ }
-{
-    5 + 5 * vectors::u8_in(p, 4) as usize
-}
-
 // 21: patched body, u64 data length -> u8 number (0 accepted).
 fn validate_agrees(base: &[u8], p: &[u8]) -> bool {
     let mut room = [0u8; 4096];
-    let size = patched(base, p, &mut room);
-    let at = after_patches(p);
+    let size = vectors::patch::patched(base, p, &mut room);
+    let at = vectors::patch::after_patches(p);
     if p.len() != at + 9 {
         return false;
     }
@@ -179,8 +139,8 @@ fn reading_agrees(body: &[u8], bytes: &[u8], p: &[u8], at: usize, end: usize) ->
 // 22: patched body, u64 data length, bytes key, u8 limit given, u64 limit -> the answer.
 fn get_agrees(base: &[u8], p: &[u8]) -> bool {
     let mut room = [0u8; 4096];
-    let size = patched(base, p, &mut room);
-    let at = after_patches(p);
+    let size = vectors::patch::patched(base, p, &mut room);
+    let at = vectors::patch::after_patches(p);
     let end = vectors::bytes_end(p, at + 8);
     if p.len() < end {
         return false;

@@ -5,7 +5,7 @@ use Prim.Native.Nat.{ℕ, _+_, _*_, _^_, _<_}
 use native.Mathlib.Omega.{arith}
 use borrow.Author.Needs.{needs}
 use Rattle.laws.specs.Power.{power-pos}
-use Rattle.fuse.specs.Positions.{firstOf}
+use Rattle.fuse.specs.Positions.{firstCell}
 use Rattle.fuse.proofs.PositionLaws.{room, cell-first, cell-other}
 use Rattle.fuse.proofs.cell.Statement.{statement}
 use Rattle.fuse.proofs.cell.Tie as tie
@@ -17,8 +17,8 @@ mul-high-requires : tie.Need-mul-high-requires
 mul-high-requires c κs = search needs
 
 -- the first position
-first : (c : tie.After-mul-high) → c .mul-high .result ≡ firstOf (c .before .args .segment) (c .before .args .count) (c .before .args .h)
-unfolding firstOf
+first : (c : tie.After-mul-high) → c .mul-high .result ≡ firstCell (c .before .args .segment) (c .before .args .count) (c .before .args .h)
+unfolding firstCell
 first c = c .mul-high .ensures
 
 fits : (c : tie.After-mul-high) → c .mul-high .result + c .before .args .i * c .before .args .segment < 2 ^ 32

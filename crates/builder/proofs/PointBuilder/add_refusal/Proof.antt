@@ -14,6 +14,9 @@ returns : tie.Need-returns
 unfolding addRefusal addCauses
 returns c = rw (← (c .before .fits2 .ensures), c .if1 .taken)
 
+cast-if2 : tie.Need-cast-if2
+cast-if2 c = search needs
+
 returns-2 : tie.Need-returns-2
 unfolding addRefusal addCauses
 returns-2 c = rw (← (c .before .before .fits2 .ensures), c .before .if1 .left, lt-ltb _ _ (c .if2 .taken))
@@ -55,6 +58,7 @@ add-refusal-spec =
     (tie.spec
     fits-requires
     returns
+    cast-if2
     returns-2
     cast-if3
     returns-3

@@ -40,6 +40,9 @@ u32-at-requires-2 c κs = omega arith
 cast-versions : tie.Need-cast-versions
 cast-versions c = search needs
 
+cast-if7 : tie.Need-cast-if7
+cast-if7 c = search needs
+
 returns-7 : tie.Need-returns-7
 returns-7 c = let s = c .before .before .before .before .before .before .before .before .before .before .before .args in fits-not (s .self) (s .buffer .now) (c .before .before .before .before .before .before .before .before .if1 .left) (λ f. omega arith)
 
@@ -80,6 +83,7 @@ fits-spec =
     add-u32-at
     u32-at-requires-2
     cast-versions
+    cast-if7
     returns-7
     returns-8
     sub-if9
