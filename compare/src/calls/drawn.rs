@@ -1,7 +1,7 @@
 //! What several calls draw: record lists, their bodies, whole and damaged; hashes; lengths; lent memory that isn't zero.
 use oracle::check::{damage, random_list};
 use oracle::lines::{Rec, rust_builder, rust_finish, rust_finish_arena};
-use oracle::{Rng, paper};
+use oracle::{Rng, hunt, paper};
 
 /// The data length that the example's records need.
 pub const EXAMPLE_DATA: u64 = 116;
@@ -55,6 +55,24 @@ pub fn list(r: &mut Rng) -> (Vec<Rec>, u64) {
     let data = [0, 1, 8, 100, 1000][r.below(5) as usize];
     let style = r.next();
     (random_list(r, keys as usize, data, style), data)
+}
+
+/// The arena of these keys, one empty put each.
+pub fn arena_of(keys: Vec<Vec<u8>>) -> Vec<u8> {
+    let recs: Vec<Rec> =
+        keys.into_iter().map(|key| Rec { new: true, kind: 1, key, seq: 1, len: 0, offset: 0 }).collect();
+    rust_builder(&recs).unwrap().arena().to_vec()
+}
+
+/// An arena; now and then of keys that earlier attempts can't place.
+pub fn arena(r: &mut Rng) -> Vec<u8> {
+    match r.below(12) {
+        0 => {
+            let attempt = r.below(9);
+            arena_of(hunt::keys_for_attempt(attempt, r))
+        }
+        _ => rust_builder(&list(r).0).unwrap().arena().to_vec(),
+    }
 }
 
 /// A body that finish made, the length of its data, and its records.
@@ -114,3 +132,4 @@ pub fn around(r: &mut Rng, needed: usize) -> usize {
 
 pub const FILL: u8 = 0xC3;
 pub const FILL_WIDE: u64 = 0xC3C3_0000_C3C3_0001;
+pub const FILL_NARROW: u32 = 0xC3C3_0001;
