@@ -1,5 +1,6 @@
 //! The timings: one file a call, one line of `ALL` each. Medians of rounds in which ours and the Rust's runs take turns.
 mod filter;
+mod finish;
 mod get;
 mod hash;
 mod mix;
@@ -36,6 +37,7 @@ const fn entry<B: Bench>() -> Entry {
 pub const ALL: &[Entry] = &[
     entry::<mix::Mix>(),
     entry::<hash::Hash>(),
+    entry::<finish::Finish>(),
     entry::<validate::Validate>(),
     entry::<get::Hit>(),
     entry::<get::Miss>(),

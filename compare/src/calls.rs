@@ -2,6 +2,7 @@
 mod add;
 mod drawn;
 mod filter_read;
+mod finish;
 mod get;
 mod hash;
 mod history;
@@ -52,6 +53,7 @@ pub const ALL: &[Entry] = &[
     entry::<add::Add>(),
     entry::<set_offset::SetOffset>(),
     entry::<history::History>(),
+    entry::<finish::Finish>(),
     entry::<validate::Validate>(),
     entry::<get::Get>(),
     entry::<filter_read::FilterRead>(),

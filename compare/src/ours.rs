@@ -25,6 +25,18 @@ mod c {
             place: u64,
             offset: u64,
         ) -> u64;
+        pub fn kiban_finish(
+            arena: *const u8,
+            arena_n: usize,
+            out: *mut u8,
+            out_n: usize,
+            wide: *mut u64,
+            wide_n: usize,
+            narrow: *mut u32,
+            narrow_n: usize,
+            answer: *mut u64,
+            answer_n: usize,
+        ) -> u64;
         pub fn kiban_validate(body: *const u8, body_n: usize, data_length: u64) -> u64;
         pub fn kiban_get(
             body: *const u8,
@@ -95,6 +107,22 @@ pub fn add(
 }
 pub fn set_offset(buffer: &mut [u8], state: &[u64], place: u64, offset: u64) -> u64 {
     unsafe { c::kiban_set_offset(buffer.as_mut_ptr(), buffer.len(), state.as_ptr(), state.len(), place, offset) }
+}
+pub fn finish(arena: &[u8], out: &mut [u8], wide: &mut [u64], narrow: &mut [u32], answer: &mut [u64]) -> u64 {
+    unsafe {
+        c::kiban_finish(
+            arena.as_ptr(),
+            arena.len(),
+            out.as_mut_ptr(),
+            out.len(),
+            wide.as_mut_ptr(),
+            wide.len(),
+            narrow.as_mut_ptr(),
+            narrow.len(),
+            answer.as_mut_ptr(),
+            answer.len(),
+        )
+    }
 }
 pub fn validate(body: &[u8], data_length: u64) -> u64 {
     unsafe { c::kiban_validate(body.as_ptr(), body.len(), data_length) }

@@ -1,6 +1,6 @@
 //! The Rust, one function for each of ours, with the paper's refusals where the Rust has none and those of the boundary
 //! (DECISIONS.md): a short answer 6, a short state 1, a bad kind 28. Not inlined, as a call of ours can't be.
-use oracle::lines::get_both;
+use oracle::lines::{get_both, rust_finish_arena};
 use oracle::{data, paper, rf, rp};
 
 /// Values to be added: only their length matters.
@@ -82,6 +82,23 @@ impl Builder {
         let heads = self.theirs.heads();
         [self.arena().len() as u64, heads.len() as u64, heads.last().copied().unwrap_or(0) as u64]
     }
+}
+/// The body, or the first refusal in the order 8, 5, 9, 6, 10.
+pub fn finish(arena: &[u8], out: usize, wide: usize, narrow: usize, answers: usize) -> Result<Vec<u8>, u64> {
+    if answers < 1 {
+        return Err(6);
+    }
+    let n = paper::walk(arena, 0, None, None, &mut |_, _| true).map_err(|_| 8u64)?.0.len();
+    if n == 0 || n > 65_536 {
+        return Err(5);
+    }
+    if wide < 2 * n || narrow < 8 * n + 8 {
+        return Err(9);
+    }
+    if out < 32 + 4 * n.div_ceil(3) + 12 * n + arena.len() {
+        return Err(6);
+    }
+    rust_finish_arena(arena).map_err(|n| n as u64)
 }
 /// The Rust's validation; the paper's where the data is longer than a slice that can be lent here.
 pub fn validate(body: &[u8], data: u64) -> u64 {

@@ -1,7 +1,7 @@
 //! What several calls draw: record lists, their bodies, whole and damaged; hashes; lengths; lent memory that isn't zero.
-use oracle::Rng;
 use oracle::check::{damage, random_list};
 use oracle::lines::{Rec, rust_builder, rust_finish, rust_finish_arena};
+use oracle::{Rng, hunt, paper};
 
 /// The data length that the example's records need.
 pub const EXAMPLE_DATA: u64 = 116;
@@ -22,6 +22,28 @@ pub fn example_bodies() -> Vec<Vec<u8>> {
     cuts.chain(bytes).chain([longer]).chain(direct).chain([changed(131, b"A")]).collect()
 }
 
+/// A body of one key with one put, and the length of its data: key, value length and offset at their limits and past them.
+pub fn edge_bodies() -> Vec<(Vec<u8>, u64)> {
+    let body = |key: &[u8], length: u32, offset: u64| {
+        let seed = paper::seed_of(0);
+        let mut body = b"KIBANPH2".to_vec();
+        body.extend(seed.to_le_bytes());
+        [1, 1, 48, 0, 1 << 31, 0, 0].iter().for_each(|x: &u32| body.extend(x.to_le_bytes()));
+        body.extend((paper::fingerprint(paper::hash(key, seed)) as u32).to_le_bytes());
+        [key.len() as u32, 1].iter().for_each(|x| body.extend(x.to_le_bytes()));
+        body.extend(key);
+        body.extend(7u64.to_le_bytes());
+        body.push(1);
+        body.extend(length.to_le_bytes());
+        body.extend(offset.to_le_bytes());
+        body
+    };
+    let most = 16_777_216;
+    let values = [(most, 0), (most, 1), (most + 1, 0), (0, 16_777_217), (0, 16_777_218), (1, u64::MAX), (0, u64::MAX)];
+    let keys = [0, 1, 1_048_576, 1_048_577].map(|n| (body(&vec![7; n], 0, 0), 0));
+    keys.into_iter().chain(values.map(|(length, offset)| (body(b"K", length, offset), 16_777_217))).collect()
+}
+
 /// A list that add takes, and the length of the data, in which its records lie.
 pub fn list(r: &mut Rng) -> (Vec<Rec>, u64) {
     let keys = match r.below(12) {
@@ -33,6 +55,24 @@ pub fn list(r: &mut Rng) -> (Vec<Rec>, u64) {
     let data = [0, 1, 8, 100, 1000][r.below(5) as usize];
     let style = r.next();
     (random_list(r, keys as usize, data, style), data)
+}
+
+/// The arena of these keys, one empty put each.
+pub fn arena_of(keys: Vec<Vec<u8>>) -> Vec<u8> {
+    let recs: Vec<Rec> =
+        keys.into_iter().map(|key| Rec { new: true, kind: 1, key, seq: 1, len: 0, offset: 0 }).collect();
+    rust_builder(&recs).unwrap().arena().to_vec()
+}
+
+/// An arena; now and then of keys that earlier attempts can't place.
+pub fn arena(r: &mut Rng) -> Vec<u8> {
+    match r.below(12) {
+        0 => {
+            let attempt = r.below(9);
+            arena_of(hunt::keys_for_attempt(attempt, r))
+        }
+        _ => rust_builder(&list(r).0).unwrap().arena().to_vec(),
+    }
 }
 
 /// A body that finish made, the length of its data, and its records.
@@ -92,3 +132,4 @@ pub fn around(r: &mut Rng, needed: usize) -> usize {
 
 pub const FILL: u8 = 0xC3;
 pub const FILL_WIDE: u64 = 0xC3C3_0000_C3C3_0001;
+pub const FILL_NARROW: u32 = 0xC3C3_0001;

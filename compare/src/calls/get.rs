@@ -38,7 +38,8 @@ impl Call for Get {
         let keys = [(b"A", Some(8)), (b"B", None), (b"C", Some(12)), (b"C", Some(11)), (b"D", None)];
         let bodies = drawn::example_bodies();
         let all = bodies.iter().flat_map(|b| keys.map(|(key, limit)| ask(b, key, limit, 4)));
-        all.chain((0..6).map(|n| ask(&bodies[204], b"A", None, n))).collect()
+        let edges = drawn::edge_bodies().into_iter().map(|(body, data)| Case { data, ..ask(&body, b"K", None, 4) });
+        all.chain((0..6).map(|n| ask(&bodies[204], b"A", None, n))).chain(edges).collect()
     }
     fn draw(r: &mut Rng) -> Case {
         let (body, data, recs) = drawn::any_body(r);

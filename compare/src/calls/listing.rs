@@ -33,12 +33,13 @@ impl Call for Listing {
 
     fn fixed() -> Vec<Case> {
         let zeros = [0, 15, 16, 48, 65_536, 65_537].map(|n| Case { input: vec![0; n], out: 100, answers: 1 });
-        let example = drawn::example_bodies().into_iter().map(|body| given(8, drawn::EXAMPLE_DATA, &body));
+        let example = drawn::example_bodies().into_iter().map(|body| (body, drawn::EXAMPLE_DATA));
+        let bodies = example.chain(drawn::edge_bodies()).map(|(body, data)| given(8, data, &body));
         let text = |input: Vec<u8>| Case { out: paper::listing(&input).len(), input, answers: 1 };
         let whole = given(8, drawn::EXAMPLE_DATA, &drawn::example_bodies()[204]);
         let short = [(0, 1), (36, 1), (37, 1), (100, 0), (100, 2)];
         let short = short.map(|(out, answers)| Case { input: whole.clone(), out, answers });
-        zeros.into_iter().chain(example.map(text)).chain(short).collect()
+        zeros.into_iter().chain(bodies.map(text)).chain(short).collect()
     }
     fn draw(r: &mut Rng) -> Case {
         let (body, data, recs) = drawn::any_body(r);

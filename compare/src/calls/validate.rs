@@ -19,7 +19,8 @@ impl Call for Validate {
     const MET: &'static [u64] = &[0, 20, 21, 22, 23, 24, 25, 26, 27, 28, 29, 30];
 
     fn fixed() -> Vec<Case> {
-        drawn::example_bodies().into_iter().map(|body| Case { body, data: drawn::EXAMPLE_DATA }).collect()
+        let example = drawn::example_bodies().into_iter().map(|body| (body, drawn::EXAMPLE_DATA));
+        example.chain(drawn::edge_bodies()).map(|(body, data)| Case { body, data }).collect()
     }
     fn draw(r: &mut Rng) -> Case {
         let (body, data, _) = drawn::any_body(r);
