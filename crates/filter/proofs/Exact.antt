@@ -1,0 +1,135 @@
+-- Reading accepts exactly the two layouts; refusal 15 has its exact cause; accepted bytes written again are the same bytes.
+-- Assumes nothing.
+use mathlib.Core.Path.{_≡_, refl, sym, ap, _∙_, subst}
+use mathlib.Core.Bool.{true, false}
+use mathlib.Core.List.{List, [], _∷_, _++_, append-nil}
+use Prim.Native.Nat.{ℕ, suc, _+_, _-_, _^_, _≤_, _<_}
+use native.Mathlib.Omega.{arith}
+use borrow.Author.Tests.{eq-eqb, eqb-true, le-ltb}
+use lib.ListN.{length, drop, length-append, length-drop}
+use lib.Seq.{take-at}
+use Rattle.words.specs.Field.{bytesOf, splice}
+use Rattle.words.specs.Part.{sameAs}
+use Rattle.words.proofs.Laws.{AllBytes, le-lt}
+use Rattle.words.proofs.Ordered.{same-self}
+use Rattle.fuse.specs.declared.Sizes.{Sizes}
+use Rattle.fuse.specs.Layout.{magic, positiveBytes, headerOf, sizesIn, fuseLaid, Accepted}
+use Rattle.fuse.proofs.FitLaws.{fitting-accepted, accepted-fitting, cells-some}
+use Rattle.fuse.proofs.HeaderLaws.{header-length, sizes-back}
+use Rattle.filter.specs.declared.SstFilter.{SstFilter}
+use Rattle.filter.specs.declared.SstFilter.the-variants.{Positive, Fuse, Refused}
+use Rattle.filter.specs.declared.Written.{Written}
+use Rattle.filter.specs.declared.Written.the-variants.{Length}
+use Rattle.filter.specs.Reading.{readOf, frontOf, acceptable, Layout, positive, fuse}
+use Rattle.filter.specs.Writing.{bytesFor, writeOf, outputBy, WritePost}
+use Rattle.filter.proofs.ReadLaws.{read-positive, read-other, positive-bytes, fuse-sizes, fuse-accepted, fuse-bytes}
+use Rattle.filter.proofs.WriteLaws.{front-length}
+
+-- ---- what has a layout is read as it was laid out
+
+-- byte 9 is 0 in one layout and 2 in the other
+not-positive : (s : Sizes) (cells : List ℕ) → sameAs (headerOf s ++ cells) positiveBytes ≡ false
+unfolding headerOf magic bytesOf positiveBytes sameAs
+not-positive s cells = refl
+
+laid-out : (s : Sizes) (cells : List ℕ) → Accepted s (length cells) → true ≡ fuseLaid (headerOf s ++ cells) s
+unfolding fuseLaid
+laid-out s cells a =
+    let n : length (headerOf s ++ cells) - 48 ≡ length cells = omega (arith, length-append (headerOf s) cells, header-length s) in
+    rw (n, accepted-fitting s (length cells) a, take-at (headerOf s) cells 48 (header-length s)) (sym (same-self (headerOf s)))
+
+pub layout-reads : (bytes : List ℕ) (filter : SstFilter) → Layout bytes filter → readOf bytes ≡ filter
+layout-reads bytes filter positive = sym (read-positive positiveBytes (same-self positiveBytes))
+layout-reads bytes filter (fuse s cells a l) =
+    let u = a .fits .usable in
+    let e : sizesIn (headerOf s ++ cells) ≡ s =
+    sizes-back s cells (omega (arith, a .few-keys)) l (omega (arith, u .most)) (cells-some (s .segment) (s .count) u .1) in
+    sym (read-other (headerOf s ++ cells) true (not-positive s cells) (rw e (laid-out s cells a))) ∙ ap Fuse e
+
+-- ---- what is accepted has a layout
+
+seed-fits : (bytes : List ℕ) → AllBytes bytes → (s : Sizes) → sizesIn bytes ≡ s → s .seed < 2 ^ 64
+unfolding sizesIn
+seed-fits bytes b s e = subst (λ (x : Sizes). x .seed < 2 ^ 64) e (le-lt 8 bytes 24 b)
+
+-- the cells of accepted bytes fit the sizes in front of them
+cells-accepted : (bytes : List ℕ) (s : Sizes) → readOf bytes ≡ Fuse s → Accepted s (length (drop 48 bytes))
+cells-accepted bytes s e = rw length-drop (fuse-accepted bytes s e)
+
+pub reads-layout : (bytes : List ℕ) → AllBytes bytes → (filter : SstFilter) → readOf bytes ≡ filter → (filter ≡ Refused → ⊥) → Layout bytes filter
+reads-layout bytes b Positive e n = subst (λ (t : List ℕ). Layout t Positive) (positive-bytes bytes e) positive
+reads-layout bytes b (Fuse s) e n =
+    subst (λ (t : List ℕ). Layout t (Fuse s)) (fuse-bytes bytes s e)
+    (fuse s (drop 48 bytes) (cells-accepted bytes s e) (seed-fits bytes b s (fuse-sizes bytes s e)))
+reads-layout bytes b Refused e n = absurd (n refl)
+
+-- ---- 15 exactly where there is no layout
+
+laid-accepted : (bytes : List ℕ) (filter : SstFilter) → Layout bytes filter → filter ≡ Refused → ⊥
+laid-accepted bytes filter positive e = let z : _≡_ {A = ℕ} 0 1 = cc in omega arith
+laid-accepted bytes filter (fuse s cells a l) e = let z : _≡_ {A = ℕ} 0 1 = cc in omega arith
+
+pub refused-none : (bytes : List ℕ) → readOf bytes ≡ Refused → (filter : SstFilter) → Layout bytes filter → ⊥
+refused-none bytes e filter k = laid-accepted bytes filter k (sym (layout-reads bytes filter k) ∙ e)
+
+pub none-refused : (bytes : List ℕ) → AllBytes bytes → ((filter : SstFilter) → Layout bytes filter → ⊥) → readOf bytes ≡ Refused
+none-refused bytes b no-way = by-case (readOf bytes) refl
+  where
+    by-case : (filter : SstFilter) → readOf bytes ≡ filter → readOf bytes ≡ Refused
+    by-case Positive e = absurd (no-way Positive (reads-layout bytes b Positive e (λ q. laid-accepted positiveBytes Positive positive q)))
+    by-case (Fuse s) e =
+        absurd (no-way (Fuse s) (reads-layout bytes b (Fuse s) e (λ q. let z : _≡_ {A = ℕ} 0 1 = cc in omega arith)))
+    by-case Refused e = e
+
+-- ---- written again
+
+-- nothing stands behind the Positive layout
+positive-rest : drop 48 positiveBytes ≡ []
+unfolding positiveBytes
+positive-rest = refl
+
+-- accepted bytes written again are the same bytes
+pub same-again : (bytes : List ℕ) (filter : SstFilter) → readOf bytes ≡ filter → (filter ≡ Refused → ⊥) → bytesFor filter (drop 48 bytes) ≡ bytes
+unfolding bytesFor frontOf
+same-again bytes Positive e n =
+    let p = positive-bytes bytes e in
+    subst (λ (t : List ℕ). positiveBytes ++ drop 48 t ≡ t) p (ap (λ (t : List ℕ). positiveBytes ++ t) positive-rest ∙ append-nil positiveBytes)
+same-again bytes (Fuse s) e n = fuse-bytes bytes s e
+same-again bytes Refused e n = absurd (n refl)
+
+-- what was read is acceptable beside its cells
+pub read-acceptable : (bytes : List ℕ) (filter : SstFilter) → readOf bytes ≡ filter → (filter ≡ Refused → ⊥) → acceptable filter (length (drop 48 bytes)) ≡ true
+unfolding acceptable
+read-acceptable bytes Positive e n =
+    eq-eqb _ 0 (subst (λ (t : List ℕ). length (drop 48 t) ≡ 0) (positive-bytes bytes e) (ap length positive-rest))
+read-acceptable bytes (Fuse s) e n = accepted-fitting s (length (drop 48 bytes)) (cells-accepted bytes s e)
+read-acceptable bytes Refused e n = absurd (n refl)
+
+-- and what is acceptable is read from the bytes that are written: 15 exactly for what no reading accepts
+pub acceptable-read : (filter : SstFilter) (cells : List ℕ) → ((s : Sizes) → filter ≡ Fuse s → s .seed < 2 ^ 64)
+    → acceptable filter (length cells) ≡ true → readOf (bytesFor filter cells) ≡ filter
+unfolding acceptable bytesFor frontOf
+acceptable-read Positive [] w t = ap readOf (append-nil positiveBytes) ∙ layout-reads positiveBytes Positive positive
+acceptable-read Positive (x ∷ xs) w t = absurd (omega (arith, eqb-true (suc (length xs)) 0 t))
+acceptable-read (Fuse s) cells w t = layout-reads (headerOf s ++ cells) (Fuse s) (fuse s cells (fitting-accepted s (length cells) t) (w s refl))
+acceptable-read Refused cells w t = cc
+
+-- an accepted filter has 48 bytes in front of its cells
+accepted-length : (bytes : List ℕ) (filter : SstFilter) → readOf bytes ≡ filter → (filter ≡ Refused → ⊥) → 48 + length (drop 48 bytes) ≡ length bytes
+unfolding bytesFor
+accepted-length bytes filter e n =
+    ap (λ (k : ℕ). k + length (drop 48 bytes)) (sym (front-length filter (length (drop 48 bytes)) (read-acceptable bytes filter e n)))
+    ∙ sym (length-append (frontOf filter) (drop 48 bytes)) ∙ ap length (same-again bytes filter e n)
+
+-- writing takes accepted bytes again, where there is room, and puts them in front
+pub written-again : (bytes : List ℕ) (filter : SstFilter) → readOf bytes ≡ filter → (filter ≡ Refused → ⊥)
+    → (out after : List ℕ) (r : Written) → length bytes ≤ length out → WritePost filter (drop 48 bytes) out r after
+    → (r ≡ Length (length bytes)) × (after ≡ splice out 0 bytes)
+unfolding writeOf
+written-again bytes filter e n out after r l w =
+    let m = accepted-length bytes filter e n in
+    let k : writeOf filter (drop 48 bytes) (length out) ≡ Length (length bytes) =
+    simp (read-acceptable bytes filter e n, m, le-ltb _ _ l) in (
+      w .answer ∙ k,
+      w .output ∙ ap (λ (q : Written). outputBy q filter (drop 48 bytes) out) k ∙ ap (splice out 0) (same-again bytes filter e n),
+    )

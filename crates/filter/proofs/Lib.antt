@@ -1,0 +1,6 @@
+pub mod ReadLaws
+pub mod AskLaws
+pub mod WriteLaws
+pub mod Exact
+pub mod Unique
+pub mod Figures

@@ -1,0 +1,4 @@
+pub mod PositionLaws
+pub mod AskLaws
+pub mod FitLaws
+pub mod HeaderLaws

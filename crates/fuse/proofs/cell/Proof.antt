@@ -1,0 +1,73 @@
+-- `fuse::cell` meets its contract.
+-- Assumes nothing.
+use mathlib.Core.Path.{_≡_, _∙_, subst, sym}
+use Prim.Native.Nat.{ℕ, _+_, _*_, _^_, _<_}
+use native.Mathlib.Omega.{arith}
+use borrow.Author.Needs.{needs}
+use Rattle.laws.specs.Power.{power-pos}
+use Rattle.fuse.specs.Positions.{firstOf}
+use Rattle.fuse.proofs.PositionLaws.{room, cell-first, cell-other}
+use Rattle.fuse.proofs.cell.Statement.{statement}
+use Rattle.fuse.proofs.cell.Tie as tie
+
+mul-mul-high : tie.Need-mul-mul-high
+mul-mul-high c = search needs
+
+mul-high-requires : tie.Need-mul-high-requires
+mul-high-requires c κs = search needs
+
+-- the first position
+first : (c : tie.After-mul-high) → c .mul-high .result ≡ firstOf (c .before .args .segment) (c .before .args .count) (c .before .args .h)
+unfolding firstOf
+first c = c .mul-high .ensures
+
+fits : (c : tie.After-mul-high) → c .mul-high .result + c .before .args .i * c .before .args .segment < 2 ^ 32
+fits c =
+    let s = c .before in
+    let a = s .args in
+    subst (λ (x : ℕ). x + a .i * a .segment < 2 ^ 32) (sym (first c))
+    (room (a .segment) (a .count) (a .h) (a .i) (s .pre .0) (s .fits .h .fits) (s .pre .1))
+
+returns : tie.Need-returns
+returns c =
+    let a = c .before .before .args in
+    first (c .before) ∙ cell-first (a .segment) (a .count) (a .h) (a .i) (c .if1 .taken)
+
+sub-word : tie.Need-sub-word
+sub-word c = search needs
+
+mul-word : tie.Need-mul-word
+mul-word c = search needs
+
+shr-word : tie.Need-shr-word
+shr-word c = search needs
+
+mul-result : tie.Need-mul-result
+mul-result c = record { fits = let h = fits (c .before) in omega arith }
+
+add-result : tie.Need-add-result
+add-result c = record { fits = let h = fits (c .before) in omega arith }
+
+sub-result : tie.Need-sub-result
+sub-result c = power-pos (c .before .before .args .segment) (c .before .before .pre .0 .power)
+
+returns-2 : tie.Need-returns-2
+returns-2 c =
+    let s = c .before .before in
+    let a = s .args in
+    cell-other (a .segment) (a .count) (a .h) (a .i) (c .before .mul-high .result) (s .pre .0 .power) (c .if1 .left) (first (c .before))
+
+pub cell-spec : {M : Type 1} → statement M
+cell-spec =
+    tie.close
+    (tie.spec
+    mul-mul-high
+    mul-high-requires
+    returns
+    sub-word
+    mul-word
+    shr-word
+    mul-result
+    add-result
+    sub-result
+    returns-2)

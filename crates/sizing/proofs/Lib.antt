@@ -1,0 +1,4 @@
+pub mod Search
+pub mod Rows
+pub mod ExponentLaws
+pub mod SizedLaws

@@ -1,0 +1,152 @@
+-- Laws of the table of segment counts: its rule, tested once over the whole table, carried to each n; and the sizes for n hashes.
+-- Assumes nothing.
+use mathlib.Core.Path.{_≡_, refl, sym, ap, subst}
+use mathlib.Core.Bool.{Bool, true, _&&_, and-eq-true-iff}
+use mathlib.Core.List.{List, _∷_}
+use Prim.Native.Nat.{ℕ, suc, _+_, _-_, _*_, _^_, _≤_, _<_}
+use native.Mathlib.Nat.{lt-of-le-of-lt, mul-le-mul}
+use native.Mathlib.Omega.{arith}
+use lib.Dec.{leb, eqb}
+use lib.ListN.{length, getD, drop}
+use borrow.Author.Tests.{leb-true, eqb-true, ne-eqb}
+use Rattle.fuse.specs.Positions.{cellsIn, Usable}
+use Rattle.fuse.specs.Layout.{Accepted}
+use Rattle.sizing.specs.declared.Plan.the-variants.{Positive, Fuse}
+use Rattle.sizing.specs.Table.{largest, firsts, segments}
+use Rattle.sizing.specs.Sizing.{rule, greatest, exponentOf, segmentOf, upTo, segmentsOf, cellsOf, sizesOf, planOf, rises, risesFrom}
+use Rattle.sizing.proofs.Search.{upTo-yes}
+use Rattle.sizing.proofs.Rows.{walk, row}
+use Rattle.sizing.proofs.ExponentLaws.{exponent-mono, segment-most, segment-power}
+
+-- ---- the rule, over the whole table
+
+-- the first counts rise strictly
+pub firsts-rise : rises firsts ≡ true
+unfolding rises risesFrom firsts
+firsts-rise = refl
+
+-- from 1
+pub firsts-from : firsts ≡ 1 ∷ drop 1 firsts
+unfolding firsts
+firsts-from = refl
+
+pub same-length : length firsts ≡ length segments
+unfolding firsts segments
+same-length = refl
+
+-- a row has at least 4 segments, and not too many
+countTest : ℕ → ℕ → ℕ → ℕ → Bool
+countTest i f g s = leb 4 s && leb s 16383
+
+counts-right : walk countTest (2 ^ 64) 0 1 (drop 1 firsts) segments ≡ true
+unfolding walk countTest firsts segments
+counts-right = refl
+
+-- a row starts where the segment changes, so it has one exponent; and at its last n, 40 × cells ≥ 43 × n
+rowTest : ℕ → ℕ → ℕ → ℕ → Bool
+rowTest i f g s = eqb (exponentOf f) (exponentOf (g - 1)) && leb (43 * (g - 1)) (40 * (s * 2 ^ exponentOf f))
+
+rows-right : walk rowTest (largest + 1) 0 1 (drop 1 firsts) segments ≡ true
+unfolding walk rowTest firsts segments exponentOf greatest rule
+rows-right = refl
+
+-- ---- carried to each n
+
+-- the row of n
+pub row-of : (n : ℕ) → 1 ≤ n → upTo firsts n ≡ suc (upTo (drop 1 firsts) n)
+row-of n l = subst (λ (x : List ℕ). upTo x n ≡ suc (upTo (drop 1 firsts) n)) (sym firsts-from) (upTo-yes 1 (drop 1 firsts) n l)
+
+row-segments : (n : ℕ) → 1 ≤ n → segmentsOf n ≡ getD segments (upTo (drop 1 firsts) n) 0
+unfolding segmentsOf
+row-segments n l = ap (λ (j : ℕ). getD segments j 0) {x = upTo firsts n - 1} (omega (arith, row-of n l))
+
+module _ (n : ℕ) (l : 1 ≤ n) (h : n < 2 ^ 64) where
+  -- how many segments there are
+  pub segments-within : (4 ≤ segmentsOf n) × (segmentsOf n ≤ 16383)
+  unfolding countTest
+  segments-within =
+      let r = row countTest (2 ^ 64) 0 1 (drop 1 firsts) segments counts-right n l h in
+      let s : ℕ = getD segments (upTo (drop 1 firsts) n) 0 in
+      let p = and-eq-true-iff (leb 4 s) (leb s 16383) .0 (r .passes) in
+      let e = row-segments n l in
+      (omega (arith, leb-true 4 s (p .0)), omega (arith, leb-true s 16383 (p .1)))
+
+  pub cells-of : cellsIn (segmentOf n) (segmentsOf n - 3) ≡ cellsOf n
+  unfolding cellsOf
+  cells-of = ap (λ (k : ℕ). k * segmentOf n) {x = segmentsOf n - 3 + 3} (omega (arith, segments-within .0))
+
+  cells-small : cellsOf n < 2 ^ 32
+  unfolding cellsOf
+  cells-small =
+      lt-of-le-of-lt (mul-le-mul {n₁ = segmentsOf n} {m₁ = segmentOf n} {n₂ = 16383} {m₂ = 262144} (segments-within .1) (segment-most n)) (omega arith)
+
+  -- the sizes for n hashes can be used
+  pub usable : Usable (segmentOf n) (segmentsOf n - 3)
+  usable =
+      record {
+        power = segment-power n;
+        most = segment-most n;
+        counted = omega (arith, segments-within .0);
+        small = subst (λ (x : ℕ). x < 2 ^ 32) (sym cells-of) cells-small;
+      }
+
+-- the row of n, among the tested: its segment is that of n
+pub record Within (n : ℕ) : Type 0 where
+  pub first : ℕ
+  pub last : ℕ
+  pub from : first ≤ n
+  pub to : n ≤ last
+  pub one : segmentOf first ≡ segmentOf n
+  pub room : 43 * last ≤ 40 * cellsOf n
+
+within-row : (n f g s : ℕ) → f ≤ n → n < g → s ≡ segmentsOf n → exponentOf f ≡ exponentOf (g - 1) → 43 * (g - 1) ≤ 40 * (s * 2 ^ exponentOf f) → Within n
+unfolding cellsOf segmentOf
+within-row n f g s a b es one room =
+    let x = exponent-mono f n a in
+    let y = exponent-mono n (g - 1) (omega arith) in
+    let e : exponentOf f ≡ exponentOf n = omega arith in
+    record {
+      first = f;
+      last = g - 1;
+      from = a;
+      to = omega arith;
+      one = ap (λ (k : ℕ). 2 ^ k) e;
+      room = rw (es, e) at room;
+    }
+
+module _ (n : ℕ) (l : 1 ≤ n) (h : n ≤ largest) where
+  -- the row that n lies in has one segment, and at its last n, 40 × cells ≥ 43 × n
+  pub row-rule : Within n
+  unfolding rowTest
+  row-rule =
+      let s : ℕ = getD segments (upTo (drop 1 firsts) n) 0 in
+      let r = row rowTest (largest + 1) 0 1 (drop 1 firsts) segments rows-right n l (omega arith) in
+      let f : ℕ = r .first in
+      let g : ℕ = r .next in
+      let p = and-eq-true-iff (eqb (exponentOf f) (exponentOf (g - 1))) (leb (43 * (g - 1)) (40 * (s * 2 ^ exponentOf f))) .0 (r .passes) in
+      within-row n f g s (r .from) (r .below) (sym (row-segments n l)) (eqb-true _ _ (p .0)) (leb-true _ _ (p .1))
+
+  -- so 40 × cells ≥ 43 × n, and there are at least as many cells as hashes
+  pub cells-enough : 43 * n ≤ 40 * cellsOf n
+  cells-enough = let r = row-rule in omega (arith, r .room, r .to)
+
+  pub cells-at-least : n ≤ cellsOf n
+  cells-at-least = omega (arith, cells-enough)
+
+-- the sizes for n hashes are accepted beside their cells, whatever the seed
+pub sizes-accepted : (n seed : ℕ) → 1 ≤ n → n < 2 ^ 32
+    → Accepted (record { keys = n; seed = seed; segment = segmentOf n; count = segmentsOf n - 3 }) (cellsOf n)
+sizes-accepted n seed l h =
+    let h₆₄ : n < 2 ^ 64 = omega arith in
+    record { some-key = l; few-keys = h; fits = record { usable = usable n l h₆₄; whole = sym (cells-of n l h₆₄) } }
+
+-- ---- the plan, as the code makes it
+
+pub plan-none : (n : ℕ) → n ≡ 0 → Positive ≡ planOf n
+unfolding planOf
+plan-none n e = rw e
+
+pub plan-some : (n segment count : ℕ) → (n ≡ 0 → ⊥) → segment ≡ segmentOf n → count ≡ segmentsOf n - 3
+    → Fuse (record { keys = n; seed = 0; segment = segment; count = count }) ≡ planOf n
+unfolding planOf sizesOf
+plan-some n segment count z es ec = rw (ne-eqb n 0 z, es, ec)
