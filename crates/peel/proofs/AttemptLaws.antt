@@ -1,0 +1,130 @@
+-- What an attempt promises, over the real positions: each cell is queued once at most, it ends, and if every hash was peeled every hash is present. Assumes nothing.
+use mathlib.Core.Path.{_≡_, refl, sym, ap, _∙_}
+use mathlib.Core.Bool.{Bool, true, false, cond}
+use mathlib.Core.List.{List, [], _∷_}
+use Prim.Native.Nat.{ℕ, _+_, _%_, _<_, _≤_}
+use native.Mathlib.Omega.{arith}
+use borrow.Author.Tests.{eqb-true, eq-eqb, ne-eqb}
+use lib.Dec.{eqb}
+use lib.ListN.{length, replicate, length-set, length-replicate, length-map}
+use Rattle.laws.specs.Count.{one, count}
+use Rattle.laws.proofs.CountLaws.{by-test, count-nil, count-cons, count-here}
+use Rattle.fuse.specs.Asking.{graphHash, xorAt}
+use Rattle.fuse.specs.Positions.{cellsIn, positionsOf}
+use Rattle.peel.specs.declared.Graph.{Graph}
+use Rattle.peel.specs.Peel.{Peel, start, run, attempt, fill, put, peelsAll, filled, mixed, succeeds, cellsOf}
+use Rattle.peel.specs.Loops.{Whole}
+use Rattle.peel.specs.Table.{peels, Ready, Tried}
+use Rattle.peel.proofs.PeelLaws.{sound-start, sound-run, room, queued-once, attempt-ends, all-present}
+use Rattle.peel.proofs.PlaceLaws.{mixed-placed}
+use Rattle.peel.proofs.StepLaws.{all-peeled}
+
+module _ (g : Graph) (w : Whole g) (hashes : List ℕ) where
+  -- over a whole attempt each cell is queued at most once: after any number of steps it was taken, or waits, once at most
+  pub cell-queued-once : (steps cell : ℕ)
+      → count cell (run (positionsOf (g .segment) (g .count)) steps (start (positionsOf (g .segment) (g .count)) (g .cells) (mixed (g .seed) hashes)) .taken)
+      + count cell (run (positionsOf (g .segment) (g .count)) steps (start (positionsOf (g .segment) (g .count)) (g .cells) (mixed (g .seed) hashes)) .queue)
+      ≤ 1
+  cell-queued-once steps cell =
+      queued-once (positionsOf (g .segment) (g .count)) (g .cells) (mixed (g .seed) hashes) (mixed-placed g w (g .seed) hashes) steps cell
+
+  -- so as many places as there are cells are enough for all that were taken or wait
+  pub queue-fits : (steps : ℕ)
+      → length (run (positionsOf (g .segment) (g .count)) steps (start (positionsOf (g .segment) (g .count)) (g .cells) (mixed (g .seed) hashes)) .taken)
+      + length (run (positionsOf (g .segment) (g .count)) steps (start (positionsOf (g .segment) (g .count)) (g .cells) (mixed (g .seed) hashes)) .queue)
+      ≤ g .cells
+  queue-fits steps =
+      room (positionsOf (g .segment) (g .count)) (g .cells) (mixed (g .seed) hashes) _
+      (sound-run (positionsOf (g .segment) (g .count)) (g .cells) (mixed (g .seed) hashes) (mixed-placed g w (g .seed) hashes) steps _
+      (sound-start (positionsOf (g .segment) (g .count)) (g .cells) (mixed (g .seed) hashes)))
+
+  -- an attempt ends: as many steps as there are cells empty the queue
+  pub queue-empties : attempt (positionsOf (g .segment) (g .count)) (g .cells) (mixed (g .seed) hashes) .queue ≡ []
+  queue-empties = attempt-ends (positionsOf (g .segment) (g .count)) (g .cells) (mixed (g .seed) hashes) (mixed-placed g w (g .seed) hashes)
+
+-- ---- by the hashes left
+
+none-left : (xs : List ℕ) → length xs ≡ 0 → xs ≡ []
+none-left [] e = refl
+none-left (x ∷ xs) e = absurd (omega arith)
+
+module _ (pos : ℕ → List ℕ) (c : ℕ) (hs : List ℕ) where
+  peels-all : length (attempt pos c hs .left) ≡ 0 → peelsAll pos c hs ≡ true
+  unfolding peelsAll
+  peels-all e = eq-eqb _ _ e
+
+  peels-some : (length (attempt pos c hs .left) ≡ 0 → ⊥) → peelsAll pos c hs ≡ false
+  unfolding peelsAll
+  peels-some e = ne-eqb _ _ e
+
+  all-left : peelsAll pos c hs ≡ true → attempt pos c hs .left ≡ []
+  unfolding peelsAll
+  all-left e = none-left _ (eqb-true _ _ e)
+
+  filled-is : (es : List Peel) → attempt pos c hs .peeled ≡ es → fill pos es (replicate c 0) ≡ filled pos c hs
+  unfolding filled
+  filled-is es e = ap (λ (l : List Peel). fill pos l (replicate c 0)) (sym e)
+
+-- ---- every hash is present
+
+mixed-count : (seed hash : ℕ) (hashes : List ℕ) → 1 ≤ count hash hashes → 1 ≤ count (graphHash seed hash) (mixed seed hashes)
+mixed-count seed hash [] k = absurd (omega (arith, count-nil hash))
+mixed-count seed hash (x ∷ hashes) k =
+    by-test (eqb hash x)
+    (λ e. rw (eqb-true hash x e) (omega (arith, count-here (graphHash seed x) (mixed seed hashes))))
+    (λ e.
+    omega (
+      arith,
+      mixed-count seed hash hashes (omega (arith, count-cons hash x hashes, ap one e)),
+      count-cons (graphHash seed hash) (graphHash seed x) (mixed seed hashes),
+    ))
+
+module _ (g : Graph) (w : Whole g) (hashes : List ℕ) (ok : succeeds (g .segment) (g .count) (g .seed) hashes ≡ true) where
+  -- if every hash was peeled, every hash's four cells xor to the low byte of its h
+  pub hashes-present : (hash : ℕ) → 1 ≤ count hash hashes
+      → xorAt (cellsOf (g .segment) (g .count) (g .seed) hashes) (positionsOf (g .segment) (g .count) (graphHash (g .seed) hash)) ≡ graphHash (g .seed) hash % 256
+  hashes-present hash k =
+      all-present (positionsOf (g .segment) (g .count)) (cellsIn (g .segment) (g .count)) (mixed (g .seed) hashes)
+      (λ h m. rw (w .cells-are) at (mixed-placed g w (g .seed) hashes h m))
+      (all-left (positionsOf (g .segment) (g .count)) (cellsIn (g .segment) (g .count)) (mixed (g .seed) hashes) ok) _ (mixed-count (g .seed) hash hashes k)
+
+-- ---- the cells are as many as the sizes say
+
+fill-length : (pos : ℕ → List ℕ) (es : List Peel) (cells : List ℕ) → length (fill pos es cells) ≡ length cells
+unfolding fill
+fill-length pos [] cells = refl
+fill-length pos (e ∷ es) cells = fill-length pos es (put pos e cells) ∙ length-set cells (e .cell) _
+
+pub cells-length : (segment count seed : ℕ) (hashes : List ℕ) → length (cellsOf segment count seed hashes) ≡ cellsIn segment count
+unfolding filled
+cells-length segment count seed hashes = fill-length (positionsOf segment count) _ _ ∙ length-replicate (cellsIn segment count) 0
+
+-- ---- the outcome
+
+module _ (g : Graph) (w : Whole g) (hashes before wide narrow : List ℕ) (top n : ℕ)
+    (R : Ready (positionsOf (g .segment) (g .count)) (g .cells) (mixed (g .seed) hashes) (attempt (positionsOf (g .segment) (g .count)) (g .cells) (mixed (g .seed) hashes)) wide narrow top n) where
+  whole-sum : n + length (attempt (positionsOf (g .segment) (g .count)) (g .cells) (mixed (g .seed) hashes) .left) ≡ length hashes
+  whole-sum = all-peeled _ _ _ _ wide narrow top n R ∙ length-map hashes (graphHash (g .seed))
+
+  pub peeled-fits : n ≤ length hashes
+  peeled-fits = omega (arith, whole-sum)
+
+  pub tried-no : n < length hashes → Tried (g .segment) (g .count) (g .seed) hashes before before false
+  tried-no l = record { answer = sym no; cells = ap (λ (b : Bool). cond b (cellsOf (g .segment) (g .count) (g .seed) hashes) before) (sym no) }
+    where
+      no : succeeds (g .segment) (g .count) (g .seed) hashes ≡ false
+      no =
+          ap (λ (c : ℕ). peelsAll (positionsOf (g .segment) (g .count)) c (mixed (g .seed) hashes)) (sym (w .cells-are))
+          ∙ peels-some _ (g .cells) (mixed (g .seed) hashes) (λ e. omega (arith, whole-sum))
+
+  pub tried-yes : length hashes ≤ n → (after : List ℕ) → after ≡ fill (positionsOf (g .segment) (g .count)) (peels (g .cells) n wide narrow) (replicate (g .cells) 0)
+      → Tried (g .segment) (g .count) (g .seed) hashes before after true
+  tried-yes l after e = record { answer = sym yes; cells = e ∙ full ∙ ap (λ (b : Bool). cond b (cellsOf (g .segment) (g .count) (g .seed) hashes) before) (sym yes) }
+    where
+      yes : succeeds (g .segment) (g .count) (g .seed) hashes ≡ true
+      yes =
+          ap (λ (c : ℕ). peelsAll (positionsOf (g .segment) (g .count)) c (mixed (g .seed) hashes)) (sym (w .cells-are))
+          ∙ peels-all _ (g .cells) (mixed (g .seed) hashes) (omega (arith, whole-sum))
+
+      full : fill (positionsOf (g .segment) (g .count)) (peels (g .cells) n wide narrow) (replicate (g .cells) 0) ≡ cellsOf (g .segment) (g .count) (g .seed) hashes
+      full = filled-is (positionsOf (g .segment) (g .count)) (g .cells) (mixed (g .seed) hashes) _ (R .peeled) ∙ ap (λ (c : ℕ). filled (positionsOf (g .segment) (g .count)) c (mixed (g .seed) hashes)) (w .cells-are)

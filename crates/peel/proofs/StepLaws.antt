@@ -1,0 +1,331 @@
+-- One step of the peeling on the workspace, all steps, the filling, and a whole attempt. Assumes nothing.
+use mathlib.Core.Path.{_≡_, refl, sym, ap, ap₂, _∙_, subst}
+use mathlib.Core.List.{List, [], _∷_}
+use Prim.Native.Nat.{ℕ, zero, suc, _+_, _-_, _%_, _<_, _≤_}
+use native.Mathlib.Nat.{not-suc-le-zero}
+use native.Mathlib.Omega.{arith}
+use native.Mathlib.Numerals.{add-one}
+use borrow.Author.Tests.{ltb-true, ltb-false}
+use lib.Dec.{ltb}
+use lib.Bits.{bitXor}
+use lib.ListN.{length, getD, set, length-set}
+use lib.Seq.{getD-set-same, getD-set-other}
+use Rattle.laws.specs.Count.{count, without, rising}
+use Rattle.laws.proofs.CountLaws.{count-cons, count-here, by-test}
+use Rattle.fuse.specs.Asking.{xorAt}
+use Rattle.peel.specs.Peel.{Peel, Attempt, lying, queued, skip, peel, settle, next, step, run, start, attempt, put, fill}
+use Rattle.peel.specs.Sound.{Placed, Peelable, hashes}
+use Rattle.peel.specs.Loops.{Below, Spare}
+use Rattle.peel.specs.Table.{xors, stack, peels, lowered, stirred, noted, Queued, Tables, Ready}
+use Rattle.peel.proofs.PeelLaws.{among-once, lying-head, degree-without, sound-step, sound-skip, room, sound-start, count-rising}
+use Rattle.peel.proofs.TableLaws.{xors-one, stack-suc, stack-none, length-stack, stack-same, tables-remove, tables-same, noted-queued, lowered-other, stirred-other, length-lowered, length-stirred, degree-le}
+
+-- ---- the peel stack
+
+peels-suc : (c n : ℕ) (wide narrow : List ℕ) → peels c (suc n) wide narrow ≡ record { hash = getD wide (c + n) 0; cell = getD narrow (c + c + n) 0 } ∷ peels c n wide narrow
+unfolding peels
+peels-suc c n wide narrow = refl
+
+peels-none : (c : ℕ) (wide narrow : List ℕ) → peels c 0 wide narrow ≡ []
+unfolding peels
+peels-none c wide narrow = refl
+
+length-peels : (c n : ℕ) (wide narrow : List ℕ) → length (peels c n wide narrow) ≡ n
+length-peels c zero wide narrow = ap length (peels-none c wide narrow)
+length-peels c (suc n) wide narrow = ap length (peels-suc c n wide narrow) ∙ ap suc (length-peels c n wide narrow)
+
+-- it goes by its entries
+peels-same : (c n : ℕ) (wide narrow wide' narrow' : List ℕ) → ((i : ℕ) → i < n → getD wide' (c + i) 0 ≡ getD wide (c + i) 0)
+    → ((i : ℕ) → i < n → getD narrow' (c + c + i) 0 ≡ getD narrow (c + c + i) 0) → peels c n wide' narrow' ≡ peels c n wide narrow
+peels-same c zero wide narrow wide' narrow' e f = peels-none c wide' narrow' ∙ sym (peels-none c wide narrow)
+peels-same c (suc n) wide narrow wide' narrow' e f =
+    peels-suc c n wide' narrow'
+    ∙ ap₂ (λ (x : Peel) (xs : List Peel). x ∷ xs) (ap₂ (λ (a b : ℕ). record { hash = a; cell = b }) (e n (omega arith)) (f n (omega arith)))
+    (peels-same c n wide narrow wide' narrow' (λ i h. e i (omega arith)) (λ i h. f i (omega arith)))
+    ∙ sym (peels-suc c n wide narrow)
+
+-- ---- a list by its length
+
+one-hash : (hs : List ℕ) → length hs ≡ 1 → hs ≡ xors hs ∷ []
+one-hash [] e = absurd (omega arith)
+one-hash (h ∷ []) e = ap (λ (x : ℕ). x ∷ []) (sym (xors-one h))
+one-hash (h ∷ k ∷ hs) e = absurd (omega arith)
+
+settle-skip : (pos : ℕ → List ℕ) (hs : List ℕ) (p : ℕ) (q : List ℕ) (s : Attempt) → (length hs ≡ 1 → ⊥) → settle pos hs p q s ≡ skip pos p q s
+settle-skip pos [] p q s e = refl
+settle-skip pos (h ∷ []) p q s e = absurd (e refl)
+settle-skip pos (h ∷ k ∷ hs) p q s e = refl
+
+module _ (pos : ℕ → List ℕ) (c : ℕ) (hs : List ℕ) (s : Attempt) (wide narrow : List ℕ) where
+  -- the queue is never longer than there are cells
+  pub top-le : (top n : ℕ) → Ready pos c hs s wide narrow top n → top ≤ c
+  top-le top n R = omega (arith, room pos c hs s (R .sound), ap length (R .waiting), length-stack c top narrow)
+
+  -- an empty queue
+  pub ready-empty : (n : ℕ) → Ready pos c hs s wide narrow 0 n → step pos s ≡ s
+  ready-empty n R = ap (λ (l : List ℕ). next pos l s) (R .waiting ∙ stack-none c narrow)
+
+  module _ (t n : ℕ) (R : Ready pos c hs s wide narrow (suc t) n) where
+    p : ℕ
+    p = getD narrow (c + t) 0
+
+    -- the cell taken
+    taken-cell : s .queue ≡ p ∷ stack c t narrow
+    unfolding p
+    taken-cell = R .waiting ∙ stack-suc c t narrow
+
+    pub cell-under : getD narrow (c + t) 0 < c
+    unfolding p
+    cell-under =
+        by-test (ltb p c) (λ e. ltb-true p c e)
+        (λ e. absurd (omega (arith, R .sound .below p (ltb-false p c e), ap (count p) taken-cell, count-here p (stack c t narrow))))
+
+    settled : step pos s ≡ settle pos (lying pos p (s .left)) p (stack c t narrow) s
+    settled = ap (λ (l : List ℕ). next pos l s) taken-cell
+
+    -- a cell of another degree is skipped
+    pub ready-skip : (getD narrow (getD narrow (c + t) 0) 0 ≡ 1 → ⊥) → Ready pos c hs (step pos s) wide narrow t n
+    unfolding p
+    ready-skip e =
+        let k : step pos s ≡ skip pos p (stack c t narrow) s =
+        settled ∙ settle-skip pos (lying pos p (s .left)) p (stack c t narrow) s (λ z. e (R .tables .degree-at p cell-under ∙ z)) in
+        rw k
+        (record {
+          placed = R .placed;
+          sound = sound-skip pos c hs p (stack c t narrow) s taken-cell (R .sound);
+          tables = R .tables;
+          waiting = refl;
+          peeled = R .peeled;
+          wide-room = R .wide-room;
+          narrow-room = R .narrow-room;
+        })
+
+    -- a cell of degree 1 holds its one hash
+    module _ (e : getD narrow (getD narrow (c + t) 0) 0 ≡ 1) where
+      h : ℕ
+      h = getD wide (getD narrow (c + t) 0) 0
+
+      only : lying pos p (s .left) ≡ h ∷ []
+      unfolding p h
+      only =
+          let k : lying pos p (s .left) ≡ xors (lying pos p (s .left)) ∷ [] = one-hash _ (sym (R .tables .degree-at p cell-under) ∙ e) in
+          k ∙ ap (λ (y : ℕ). y ∷ []) (sym (R .tables .xor-at p cell-under))
+
+      peeling : step pos s ≡ peel pos h p (stack c t narrow) s
+      peeling = settled ∙ ap (λ (l : List ℕ). settle pos l p (stack c t narrow) s) only
+
+      here : 1 ≤ count h (s .left)
+      here = lying-head pos p h (s .left) [] only .0
+
+      placed-h : Placed c pos h
+      placed-h = R .placed h (omega (arith, here, R .sound .all h))
+
+      -- there is room on the peel stack
+      pub room-peel : n < length hs
+      room-peel =
+          omega (arith, R .sound .sum, ap length (R .peeled), length-peels c n wide narrow, degree-le pos p (s .left), ap length only)
+
+      -- the workspace once hash and cell are on it
+      wide₁ : List ℕ
+      wide₁ = set wide (c + n) (getD wide (getD narrow (c + t) 0) 0)
+
+      narrow₁ : List ℕ
+      narrow₁ = set narrow (c + c + n) (getD narrow (c + t) 0)
+
+      tables₁ : Tables pos c (s .left) narrow₁ wide₁
+      unfolding wide₁ narrow₁
+      tables₁ =
+          tables-same pos c (s .left) narrow wide _ _ (R .tables) (length-set narrow (c + c + n) _) (length-set wide (c + n) _)
+          (λ v l. getD-set-other narrow (c + c + n) v _ 0 (λ z. omega arith)) (λ v l. getD-set-other wide (c + n) v _ 0 (λ z. omega arith))
+
+      module _ (ps : List ℕ) (eps : ps ≡ pos (getD wide (getD narrow (c + t) 0) 0)) where
+        -- the hash can leave its cells
+        pub spare : Spare ps (set narrow (c + c + n) (getD narrow (c + t) 0)) (set wide (c + n) (getD wide (getD narrow (c + t) 0) 0))
+        unfolding h wide₁ narrow₁
+        spare =
+            rw eps
+            (record {
+              in-d = λ v k. placed-h .below v (omega (arith, tables₁ .degrees));
+              in-x = λ v k. placed-h .below v (omega (arith, tables₁ .mixes));
+              enough = λ v. by-test (ltb v c)
+                  (λ k. omega (arith, degree-without pos v h (s .left) here, among-once v (pos h) (placed-h .apart v), tables₁ .degree-at v (ltb-true v c k)))
+                  (λ k. omega (arith, placed-h .below v (ltb-false v c k)));
+            })
+
+        pub cells-under : Below c ps
+        unfolding h
+        cells-under = rw eps (placed-h .below)
+
+        -- the hash has left them
+        module _ (narrow₂ wide₂ : List ℕ) (ed : narrow₂ ≡ lowered ps (set narrow (c + c + n) (getD narrow (c + t) 0)))
+            (ex : wide₂ ≡ stirred (getD wide (getD narrow (c + t) 0) 0) ps (set wide (c + n) (getD wide (getD narrow (c + t) 0) 0))) where
+          after : Tables pos c (without h (s .left)) narrow₂ wide₂
+          unfolding h wide₁ narrow₁
+          after = rw (ed, ex, eps) (tables-remove pos c (s .left) narrow₁ wide₁ h placed-h here tables₁)
+
+          narrow-kept : (v : ℕ) → c ≤ v → (v ≡ c + c + n → ⊥) → getD narrow₂ v 0 ≡ getD narrow v 0
+          unfolding h
+          narrow-kept v k z =
+              rw (ed, eps) (lowered-other (pos h) _ v (placed-h .below v k) ∙ getD-set-other narrow (c + c + n) v _ 0 z)
+
+          wide-kept : (v : ℕ) → c ≤ v → (v ≡ c + n → ⊥) → getD wide₂ v 0 ≡ getD wide v 0
+          unfolding h
+          wide-kept v k z =
+              rw (ex, eps) (stirred-other h (pos h) _ v (placed-h .below v k) ∙ getD-set-other wide (c + n) v _ 0 z)
+
+          narrow-new : getD narrow₂ (c + c + n) 0 ≡ getD narrow (c + t) 0
+          unfolding h
+          narrow-new =
+              rw (ed, eps) (lowered-other (pos h) _ (c + c + n) (placed-h .below (c + c + n) (omega arith)) ∙ getD-set-same narrow (c + c + n) _ 0 (omega (arith, room-peel, R .narrow-room)))
+
+          wide-new : getD wide₂ (c + n) 0 ≡ getD wide (getD narrow (c + t) 0) 0
+          unfolding h
+          wide-new =
+              rw (ex, eps) (stirred-other h (pos h) _ (c + n) (placed-h .below (c + n) (omega arith)) ∙ getD-set-same wide (c + n) _ 0 (omega (arith, room-peel, R .wide-room)))
+
+          pub narrow-length : length narrow₂ ≡ length narrow
+          narrow-length = ap length ed ∙ length-lowered ps _ ∙ length-set narrow (c + c + n) _
+
+          pub wide-length : length wide₂ ≡ length wide
+          wide-length = ap length ex ∙ length-stirred _ ps _ ∙ length-set wide (c + n) _
+
+          queue-kept : stack c t narrow₂ ≡ stack c t narrow
+          queue-kept = stack-same c t narrow narrow₂ (λ i l. narrow-kept (c + i) (omega arith) (λ z. omega (arith, top-le (suc t) n R)))
+
+          next-queue : noted narrow₂ ps (stack c t narrow₂) ≡ step pos s .queue
+          unfolding h
+          next-queue =
+              ap₂ (noted narrow₂) eps queue-kept ∙ noted-queued pos c (without h (s .left)) narrow₂ wide₂ after (pos h) (placed-h .below) (stack c t narrow)
+              ∙ sym (ap (λ (a : Attempt). a .queue) peeling)
+
+          -- there is room on the queue
+          pub room-queue : length (noted narrow₂ ps (stack c t narrow₂)) ≤ c
+          room-queue = omega (arith, ap length next-queue, room pos c hs (step pos s) (sound-step pos c hs (R .placed) s (R .sound)))
+
+          -- those of its cells that have degree 1 are queued
+          pub ready-peel : (narrow₃ : List ℕ) (u : ℕ) → length narrow₃ ≡ length narrow₂ → Queued c (noted narrow₂ ps (stack c t narrow₂)) u narrow₂ narrow₃
+              → Ready pos c hs (step pos s) wide₂ narrow₃ u (n + 1)
+          unfolding p h
+          ready-peel narrow₃ u l Q =
+              record {
+                placed = R .placed;
+                sound = sound-step pos c hs (R .placed) s (R .sound);
+                tables =
+                    subst (λ (a : Attempt). Tables pos c (a .left) narrow₃ wide₂) (sym peeling)
+                    (tables-same pos c (without h (s .left)) narrow₂ wide₂ narrow₃ wide₂ after l refl (Q .degrees) (λ v k. refl));
+                waiting = sym next-queue ∙ sym (Q .waiting);
+                peeled =
+                    ap (λ (a : Attempt). a .peeled) peeling
+                    ∙ ap₂ (λ (x : Peel) (xs : List Peel). x ∷ xs)
+                    (ap₂ (λ (a b : ℕ). record { hash = a; cell = b }) (sym wide-new) (sym (Q .behind (c + c + n) (omega arith) ∙ narrow-new)))
+                    (R .peeled
+                    ∙ sym (peels-same c n wide narrow wide₂ narrow₃ (λ i k. wide-kept (c + i) (omega arith) (λ z. omega arith))
+                    (λ i k. Q .behind (c + c + i) (omega arith) ∙ narrow-kept (c + c + i) (omega arith) (λ z. omega arith))))
+                    ∙ sym (peels-suc c n wide₂ narrow₃) ∙ ap (λ (m : ℕ). peels c m wide₂ narrow₃) (sym (add-one n));
+                wide-room = omega (arith, R .wide-room, wide-length);
+                narrow-room = omega (arith, R .narrow-room, narrow-length, l);
+              }
+
+-- a queue that is not empty has a last entry
+pub ready-suc : {pos : ℕ → List ℕ} {c : ℕ} {hs : List ℕ} {s : Attempt} {wide narrow : List ℕ} {n : ℕ} (top : ℕ) → (top ≡ 0 → ⊥) → Ready pos c hs s wide narrow top n
+    → Ready pos c hs s wide narrow (suc (top - 1)) n
+ready-suc {pos} {c} {hs} {s} {wide} {narrow} {n} top z R = subst (λ (m : ℕ). Ready pos c hs s wide narrow m n) (omega arith) R
+
+-- ---- all steps
+
+run-suc : (pos : ℕ → List ℕ) (n : ℕ) (s : Attempt) → run pos (suc n) s ≡ step pos (run pos n s)
+unfolding run
+run-suc pos zero s = refl
+run-suc pos (suc n) s = run-suc pos n (step pos s)
+
+-- one step more, at the end
+pub run-step : (pos : ℕ → List ℕ) (n : ℕ) (s : Attempt) → run pos (n + 1) s ≡ step pos (run pos n s)
+run-step pos n s = ap (λ (m : ℕ). run pos m s) (add-one n) ∙ run-suc pos n s
+
+pub run-none : (pos : ℕ → List ℕ) (s : Attempt) → run pos 0 s ≡ s
+unfolding run
+run-none pos s = refl
+
+pub attempt-is : (pos : ℕ → List ℕ) (c : ℕ) (hs : List ℕ) → attempt pos c hs ≡ run pos c (start pos c hs)
+unfolding attempt
+attempt-is pos c hs = refl
+
+-- ---- filling
+
+fill-cons : (pos : ℕ → List ℕ) (e : Peel) (es : List Peel) (cells : List ℕ) → fill pos (e ∷ es) cells ≡ fill pos es (put pos e cells)
+unfolding fill
+fill-cons pos e es cells = refl
+
+fill-nil : (pos : ℕ → List ℕ) (cells : List ℕ) → fill pos [] cells ≡ cells
+unfolding fill
+fill-nil pos cells = refl
+
+pub fill-turn : (pos : ℕ → List ℕ) (c : ℕ) (wide narrow cells whole : List ℕ) (i x : ℕ) → 0 < i → x ≡ xorAt cells (pos (getD wide (c + (i - 1)) 0))
+    → fill pos (peels c i wide narrow) cells ≡ whole
+    → fill pos (peels c (i - 1) wide narrow) (set cells (getD narrow (c + c + (i - 1)) 0) (bitXor (getD wide (c + (i - 1)) 0 % 256) x)) ≡ whole
+fill-turn pos c wide narrow cells whole zero x h e w = absurd (not-suc-le-zero h)
+fill-turn pos c wide narrow cells whole (suc i) x h e w =
+    let k : suc i - 1 ≡ i = omega arith in
+    let e' : x ≡ xorAt cells (pos (getD wide (c + i) 0)) = rw k at e in
+    rw (k, e') (sym (fill-cons pos _ _ cells) ∙ ap (λ (es : List Peel). fill pos es cells) (sym (peels-suc c i wide narrow)) ∙ w)
+
+pub fill-end : (pos : ℕ → List ℕ) (c : ℕ) (wide narrow cells whole : List ℕ) (i : ℕ) → i ≡ 0 → fill pos (peels c i wide narrow) cells ≡ whole → cells ≡ whole
+fill-end pos c wide narrow cells whole i e w =
+    sym (ap (λ (es : List Peel). fill pos es cells) (ap (λ (m : ℕ). peels c m wide narrow) e ∙ peels-none c wide narrow) ∙ fill-nil pos cells) ∙ w
+
+-- ---- a whole attempt
+
+-- the workspace after loading and queueing
+pub ready-start : (pos : ℕ → List ℕ) (c : ℕ) (hs wide narrow narrow' : List ℕ) (top : ℕ) → ((h : ℕ) → 1 ≤ count h hs → Placed c pos h) → Tables pos c hs narrow wide
+    → Queued c (noted narrow (rising 0 c) []) top narrow narrow' → length narrow' ≡ length narrow → c + length hs ≤ length wide → c + c + length hs ≤ length narrow
+    → Ready pos c hs (start pos c hs) wide narrow' top 0
+ready-start pos c hs wide narrow narrow' top placed t Q l a b =
+    record {
+      placed = placed;
+      sound = sound-start pos c hs;
+      tables = tables-same pos c hs narrow wide narrow' wide t l refl (Q .degrees) (λ v k. refl);
+      waiting = sym (Q .waiting ∙ noted-queued pos c hs narrow wide t (rising 0 c) (λ v m. count-rising c 0 v .2 (omega arith)) []);
+      peeled = sym (peels-none c wide narrow');
+      wide-room = a;
+      narrow-room = omega arith;
+    }
+
+-- as many peeled as there are hashes: all of them
+pub all-peeled : (pos : ℕ → List ℕ) (c : ℕ) (hs : List ℕ) (s : Attempt) (wide narrow : List ℕ) (top n : ℕ) → Ready pos c hs s wide narrow top n
+    → n + length (s .left) ≡ length hs
+all-peeled pos c hs s wide narrow top n R = omega (arith, R .sound .sum, ap length (R .peeled), length-peels c n wide narrow)
+
+-- each hash was peeled at a cell below c
+cells-below : (pos : ℕ → List ℕ) (c n : ℕ) (wide narrow hs : List ℕ) → ((i : ℕ) → i < n → Placed c pos (getD wide (c + i) 0)) → Peelable pos (peels c n wide narrow) hs
+    → (i : ℕ) → i < n → getD narrow (c + c + i) 0 < c
+cells-below pos c zero wide narrow hs ok g i h = absurd (not-suc-le-zero h)
+cells-below pos c (suc n) wide narrow hs ok g i h =
+    let g' : Peelable pos (record { hash = getD wide (c + n) 0; cell = getD narrow (c + c + n) 0 } ∷ peels c n wide narrow) hs =
+    subst (λ (es : List Peel). Peelable pos es hs) (peels-suc c n wide narrow) g in
+    by-test (ltb i n)
+    (λ t. cells-below pos c n wide narrow _ (λ j k. ok j (omega arith)) (g' .2) i (ltb-true i n t))
+    (λ t.
+    let e : i ≡ n = omega (arith, ltb-false i n t) in
+    rw e (by-test (ltb (getD narrow (c + c + n) 0) c) (λ u. ltb-true _ _ u)
+    (λ u. absurd (omega (arith, ok n (omega arith) .below (getD narrow (c + c + n) 0) (ltb-false _ c u), ltb-true 0 (count (getD narrow (c + c + n) 0) (pos (getD wide (c + n) 0))) (g' .0))))))
+
+peels-hash : (c n : ℕ) (wide narrow : List ℕ) (i : ℕ) → i < n → 1 ≤ count (getD wide (c + i) 0) (hashes (peels c n wide narrow))
+peels-hash c zero wide narrow i h = absurd (not-suc-le-zero h)
+peels-hash c (suc n) wide narrow i h =
+    rw (peels-suc c n wide narrow)
+    (by-test (ltb i n)
+    (λ t.
+    omega (
+      arith,
+      peels-hash c n wide narrow i (ltb-true i n t),
+      count-cons (getD wide (c + i) 0) (getD wide (c + n) 0) (hashes (peels c n wide narrow)),
+    ))
+    (λ t.
+    let e : i ≡ n = omega (arith, ltb-false i n t) in
+    rw e (omega (arith, count-here (getD wide (c + n) 0) (hashes (peels c n wide narrow))))))
+
+pub peeled-below : (pos : ℕ → List ℕ) (c : ℕ) (hs : List ℕ) (s : Attempt) (wide narrow : List ℕ) (top n : ℕ) → Ready pos c hs s wide narrow top n
+    → (i : ℕ) → i < n → getD narrow (c + c + i) 0 < c
+peeled-below pos c hs s wide narrow top n R =
+    cells-below pos c n wide narrow (s .left) (λ i h. R .placed _ (omega (arith, R .sound .all (getD wide (c + i) 0), ap (λ (es : List Peel). count (getD wide (c + i) 0) (hashes es)) (R .peeled), peels-hash c n wide narrow i h)))
+    (subst (λ (es : List Peel). Peelable pos es (s .left)) (R .peeled) (R .sound .good))

@@ -1,0 +1,77 @@
+-- One attempt. Assumes nothing.
+use mathlib.Core.Path.{ap, _∙_}
+use Prim.Native.Nat.{ℕ, _-_}
+use native.Mathlib.Omega.{arith}
+use borrow.Author.Needs.{needs}
+use lib.ListN.{replicate, length-map}
+use Rattle.fuse.specs.Asking.{graphHash}
+use Rattle.fuse.specs.Positions.{positionsOf}
+use Rattle.peel.specs.Peel.{fill}
+use Rattle.peel.specs.Table.{peels}
+use Rattle.peel.proofs.StepLaws.{peeled-below}
+use Rattle.peel.proofs.AttemptLaws.{peeled-fits, tried-no, tried-yes}
+use Rattle.peel.proofs.attempt.Statement.{statement}
+use Rattle.peel.proofs.attempt.Tie as tie
+
+peel-hashes-requires : tie.Need-peel-hashes-requires
+peel-hashes-requires c κs = search needs
+
+same-length : tie.Need-same-length
+same-length c = search needs
+
+same-length-2 : tie.Need-same-length-2
+same-length-2 c = search needs
+
+returns : tie.Need-returns
+returns c =
+    let s = c .before .before .before .before .before .before .before .before .before .before .before .before in
+    let a = s .args in
+    tried-no (a .g) (s .pre .0) (a .hashes .now) (a .cells .now) _ _ _ _ (c .before .before .before .before .before .peel-hashes .ensures .1) (c .if1 .taken)
+
+clear-cells-requires : tie.Need-clear-cells-requires
+clear-cells-requires c κs = search needs
+
+fill-requires : tie.Need-fill-requires
+fill-requires c κs =
+    let s = c .before .before .before .before .before .before .before .before .before .before .before .before .before .before .before .before .before .before .before in
+    let a = s .args in
+    let R = c .before .before .before .before .before .before .before .before .before .before .before .before .peel-hashes .ensures .1 in
+    let m = length-map (a .hashes .now) (graphHash (a .g .seed)) in
+    let n = peeled-fits (a .g) (s .pre .0) (a .hashes .now) (a .cells .now) _ _ _ _ R in (
+      (s .pre .0, search needs, omega (arith, R .wide-room), omega (arith, R .narrow-room)),
+      peeled-below _ _ _ _ _ _ _ _ R,
+    )
+
+same-length-3 : tie.Need-same-length-3
+same-length-3 c = search needs
+
+same-length-4 : tie.Need-same-length-4
+same-length-4 c = search needs
+
+same-length-5 : tie.Need-same-length-5
+same-length-5 c = search needs
+
+returns-2 : tie.Need-returns-2
+returns-2 c =
+    let s = c .before .before .before .before .before .before .before .before .before .before .before .before .before .before .before .before .before .before .before .before .before .before in
+    let a = s .args in
+    let h = c .before .before .before .before .before .before .before .before .before .before .before .before .before .before .before .peel-hashes in
+    tried-yes (a .g) (s .pre .0) (a .hashes .now) (a .cells .now) _ _ _ _ (h .ensures .1) (c .before .before .before .before .before .before .before .before .before .before .if1 .left) _
+    (c .before .before .fill .ensures
+    ∙ ap (fill (positionsOf (a .g .segment) (a .g .count)) (peels (a .g .cells) (h .result) (h .last .1 .0) (h .last .1 .1 .0)))
+    (c .before .before .before .before .before .before .before .before .clear-cells .ensures ∙ ap (λ (k : ℕ). replicate k 0) (s .pre .4)))
+
+pub attempt-spec : {M : Type 1} → statement M
+attempt-spec =
+    tie.close
+    (tie.spec
+    peel-hashes-requires
+    same-length
+    same-length-2
+    returns
+    clear-cells-requires
+    fill-requires
+    same-length-3
+    same-length-4
+    same-length-5
+    returns-2)

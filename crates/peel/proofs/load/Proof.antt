@@ -1,0 +1,106 @@
+-- Degrees and xors of the mixed hashes. Assumes nothing.
+use mathlib.Core.Path.{_≡_, refl, sym, _∙_}
+use mathlib.Core.List.{List, []}
+use Prim.Native.Nat.{ℕ, _-_, _≤_}
+use native.Mathlib.Omega.{arith}
+use borrow.Author.Needs.{needs}
+use lib.ListN.{length, drop}
+use Rattle.peel.proofs.TableLaws.{tables-fit, tables-load, mixed-at}
+use lib.ListN.{length-map, length-drop, drop-of-length-le}
+use Rattle.fuse.specs.Asking.{graphHash}
+use Rattle.fuse.specs.Positions.{positionsOf}
+use Rattle.peel.specs.Peel.{mixed}
+use Rattle.peel.specs.Table.{Tables}
+use Rattle.peel.proofs.PlaceLaws.{graph-placed}
+use Rattle.peel.proofs.load.Statement.{statement}
+use Rattle.peel.proofs.load.Tie as tie
+
+abbrev Inv-loop : tie.InvT-loop
+Inv-loop hashes wide₀ narrow₀ g i₀ wide narrow i =
+    (i ≤ length hashes) × (length wide ≡ length wide₀) × (length narrow ≡ length narrow₀)
+    × Tables (positionsOf (g .segment) (g .count)) (g .cells) (drop i (mixed (g .seed) hashes)) narrow wide
+
+abbrev μ-loop : tie.MeasureT-loop
+μ-loop hashes wide₀ narrow₀ g i₀ wide narrow i = i
+
+loop-holds : tie.Need-loop-holds Inv-loop μ-loop
+loop-holds c =
+    let a = c .before .before .before .args in
+    let hs : List ℕ = mixed (a .g .seed) (a .hashes .now) in
+    let e : drop (length (a .hashes .now)) hs ≡ [] = drop-of-length-le hs {i = length (a .hashes .now)} (omega (arith, length-map (a .hashes .now) (graphHash (a .g .seed)))) in
+    (omega arith, refl, refl, rw e (c .before .before .before .pre .2))
+
+sub-i : tie.Need-sub-i Inv-loop μ-loop
+sub-i c = search needs
+
+mul-graph-hash : tie.Need-mul-graph-hash Inv-loop μ-loop
+mul-graph-hash c = search needs
+
+shared-slice-read-graph-hash : tie.Need-shared-slice-read-graph-hash Inv-loop μ-loop
+shared-slice-read-graph-hash c = search needs
+
+graph-hash-requires : tie.Need-graph-hash-requires Inv-loop μ-loop
+graph-hash-requires c κs = search needs
+
+positions-requires : tie.Need-positions-requires Inv-loop μ-loop
+positions-requires c κs = c .before .before .before .before .before .before .before .pre .0 .usable
+
+slice-aggregate-add : tie.Need-slice-aggregate-add Inv-loop μ-loop
+slice-aggregate-add c = search needs
+
+add-requires : tie.Need-add-requires Inv-loop μ-loop
+add-requires c κs =
+    let s = c .before .before .before .before .before .before .before .before .before .before .before in
+    let l = c .before .before .before .before .before .before .before .loop in
+    let a = s .args in
+    tables-fit _ (a .g .cells) (drop (l .i) (mixed (a .g .seed) (a .hashes .now))) _ _ _ _ (c .before .before .before .positions .ensures) (graph-placed (a .g) (s .pre .0) _ _ _ (c .before .before .before .before .graph-hash .ensures)) (l .inv .3)
+    (omega (arith, length-drop (l .i) (mixed (a .g .seed) (a .hashes .now)), length-map (a .hashes .now) (graphHash (a .g .seed))))
+
+loop-less : tie.Need-loop-less Inv-loop μ-loop
+loop-less c = search needs
+
+loop-again : tie.Need-loop-again Inv-loop μ-loop
+loop-again c =
+    let s = c .before .before .before .before .before .before .before .before .before .before .before .before .before .before .before .before in
+    let l = c .before .before .before .before .before .before .before .before .before .before .before .before .loop in
+    let a = s .args in
+    let k = c .before .before .before .before .before .before .before .before .before .graph-hash .ensures in
+    let m = length-map (a .hashes .now) (graphHash (a .g .seed)) in (
+      omega arith,
+      search needs,
+      search needs,
+      tables-load _ (a .g .cells) (mixed (a .g .seed) (a .hashes .now)) _ _ _ _ _ _ (l .i) (omega arith) (omega arith) (k ∙ sym (mixed-at (a .g .seed) (a .hashes .now) (l .i - 1) (omega arith)))
+          (c .before .before .before .before .before .before .before .before .positions .ensures) (graph-placed (a .g) (s .pre .0) _ _ _ k) (l .inv .3) (c .before .before .before .before .add .ensures .0) (c .before .before .before .before .add .ensures .1),
+    )
+
+same-length : tie.Need-same-length Inv-loop μ-loop
+same-length c = search needs
+
+same-length-2 : tie.Need-same-length-2 Inv-loop μ-loop
+same-length-2 c = search needs
+
+returns : tie.Need-returns Inv-loop μ-loop
+returns c =
+    let l = c .before .loop in
+    let e : l .i ≡ 0 = omega arith in
+    rw e at (l .inv .3)
+
+pub load-spec : {M : Type 1} → statement M
+load-spec =
+    tie.close
+    (tie.spec
+    Inv-loop
+    μ-loop
+    loop-holds
+    sub-i
+    mul-graph-hash
+    shared-slice-read-graph-hash
+    graph-hash-requires
+    positions-requires
+    slice-aggregate-add
+    add-requires
+    loop-less
+    loop-again
+    same-length
+    same-length-2
+    returns)

@@ -1,0 +1,72 @@
+-- The hashes are loaded, the cells of degree 1 queued, and all steps taken. Assumes nothing.
+use mathlib.Core.Path.{_≡_}
+use Prim.Native.Nat.{_-_}
+use native.Mathlib.Omega.{arith}
+use borrow.Author.Needs.{needs}
+use lib.ListN.{length}
+use lib.ListN.{length-map}
+use Rattle.fuse.specs.Asking.{graphHash}
+use Rattle.fuse.specs.Positions.{positionsOf}
+use Rattle.peel.specs.Peel.{start, mixed}
+use Rattle.peel.specs.Table.{Ready}
+use Rattle.peel.proofs.PlaceLaws.{whole-small, mixed-placed}
+use Rattle.peel.proofs.TableLaws.{tables-none}
+use Rattle.peel.proofs.StepLaws.{ready-start}
+use Rattle.peel.proofs.peel_hashes.Statement.{statement}
+use Rattle.peel.proofs.peel_hashes.Tie as tie
+
+-- the workspace where the peeling begins
+begun : (k : tie.After-slice-known7)
+    → (let a = k .before .before .before .before .before .before .before .before .before .before .before .before .before .before .before .before .before .before .before .before .before .before .args in
+    Ready (positionsOf (a .g .segment) (a .g .count)) (a .g .cells) (mixed (a .g .seed) (a .hashes .now)) (start (positionsOf (a .g .segment) (a .g .count)) (a .g .cells) (mixed (a .g .seed) (a .hashes .now)))
+    (k .before .before .before .before .before .before .before .before .load .last .1 .0) (k .before .before .queue-ones .last .0) (k .before .before .queue-ones .result) 0)
+begun k =
+    let s = k .before .before .before .before .before .before .before .before .before .before .before .before .before .before .before .before .before .before .before .before .before .before in
+    let a = s .args in
+    let m = length-map (a .hashes .now) (graphHash (a .g .seed)) in
+    let w : length (k .before .before .before .before .before .before .before .before .load .last .1 .0) ≡ length (a .wide .now) = search needs in
+    let n : length (k .before .before .before .before .before .before .before .before .load .last .1 .1 .0) ≡ length (a .narrow .now) = search needs in
+    ready-start _ (a .g .cells) (mixed (a .g .seed) (a .hashes .now)) _ (k .before .before .before .before .before .before .before .before .load .last .1 .1 .0) _ _ (mixed-placed (a .g) (s .pre .0) (a .g .seed) (a .hashes .now)) (k .before .before .before .before .before .before .before .before .load .ensures)
+    (k .before .before .queue-ones .ensures) (search needs) (omega arith) (omega arith)
+
+clear-wide-requires : tie.Need-clear-wide-requires
+clear-wide-requires c κs = search needs
+
+clear-narrow-requires : tie.Need-clear-narrow-requires
+clear-narrow-requires c κs = search needs
+
+load-requires : tie.Need-load-requires
+load-requires c κs =
+    let s = c .before .before .before .before .before .before .before .before .before .before .before .before .before in (
+      s .pre .0,
+      s .pre .1,
+      tables-none _ _ _ _ (search needs) (search needs) (c .before .before .before .before .clear-narrow .ensures) (c .before .before .before .before .before .before .before .before .clear-wide .ensures),
+    )
+
+queue-ones-requires : tie.Need-queue-ones-requires
+queue-ones-requires c κs = let s = c .before .before .before .before .before .before .before .before .before .before .before .before .before .before .before .before .before .before .before in (omega (arith, whole-small (s .args .g) (s .pre .0)), search needs)
+
+peel-all-requires : tie.Need-peel-all-requires
+peel-all-requires c κs = let s = c .before .before .before .before .before .before .before .before .before .before .before .before .before .before .before .before .before .before .before .before .before .before .before .before in (s .pre .0, (mixed (s .args .g .seed) (s .args .hashes .now), begun (c .before .before)))
+
+same-length : tie.Need-same-length
+same-length c = search needs
+
+same-length-2 : tie.Need-same-length-2
+same-length-2 c = search needs
+
+returns : tie.Need-returns
+returns c = let a = c .before .before .before .before .before .before .before .before .before .before .before .before .before .before .before .before .before .before .before .before .before .before .before .before .before .before .before .before .before .args in c .before .before .before .before .peel-all .ensures (mixed (a .g .seed) (a .hashes .now)) (begun (c .before .before .before .before .before .before .before))
+
+pub peel-hashes-spec : {M : Type 1} → statement M
+peel-hashes-spec =
+    tie.close
+    (tie.spec
+    clear-wide-requires
+    clear-narrow-requires
+    load-requires
+    queue-ones-requires
+    peel-all-requires
+    same-length
+    same-length-2
+    returns)

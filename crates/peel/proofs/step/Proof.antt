@@ -1,0 +1,186 @@
+-- One step of the peeling. Assumes nothing.
+use mathlib.Core.Path.{_≡_, _∙_}
+use mathlib.Core.List.{List}
+use Prim.Native.Nat.{ℕ, suc, _+_, _-_, _<_}
+use native.Mathlib.Omega.{arith}
+use borrow.Author.Needs.{needs}
+use lib.ListN.{length, getD}
+use Rattle.fuse.specs.Positions.{positionsOf}
+use Rattle.peel.specs.Peel.{Attempt}
+use Rattle.peel.specs.Table.{Ready}
+use Rattle.peel.proofs.PlaceLaws.{whole-small}
+use Rattle.peel.proofs.StepLaws.{top-le, ready-empty, cell-under, ready-skip, room-peel, spare, cells-under, narrow-length, wide-length, room-queue, ready-peel, ready-suc}
+use Rattle.peel.proofs.step.Statement.{statement}
+use Rattle.peel.proofs.step.Tie as tie
+
+-- what the caller gave, where the queue is not empty
+abbrev Given : tie.Start → List ℕ → Attempt → Type 0
+Given g hs s =
+    Ready (positionsOf (g .args .g .segment) (g .args .g .count)) (g .args .g .cells) hs s (g .args .wide .now) (g .args .narrow .now) (suc (g .args .at .top - 1)) (g .args .at .peeled)
+
+given : (g : tie.Start) → (g .args .at .top ≡ 0 → ⊥) → Given g (g .pre .1 .0) (g .pre .1 .1)
+given g z = ready-suc (g .args .at .top) z (g .pre .1 .2)
+
+-- the cell taken
+abbrev cellTaken : tie.Start → ℕ
+cellTaken g = getD (g .args .narrow .now) (g .args .g .cells + (g .args .at .top - 1)) 0
+
+queue-in : (g : tie.Start) → (g .args .at .top ≡ 0 → ⊥) → g .args .g .cells + (g .args .at .top - 1) < length (g .args .narrow .now)
+queue-in g z = omega (arith, given g z .narrow-room, top-le _ _ _ _ _ _ _ _ (given g z))
+
+cell-in : (g : tie.Start) → (g .args .at .top ≡ 0 → ⊥) → (cellTaken g < length (g .args .narrow .now)) × (cellTaken g < length (g .args .wide .now))
+cell-in g z =
+    let R = given g z in
+    let k : cellTaken g < g .args .g .cells = cell-under _ _ _ _ _ _ _ _ R in
+    (omega (arith, R .tables .degrees), omega (arith, R .tables .mixes))
+
+stack-in : (g : tie.Start) → (g .args .at .top ≡ 0 → ⊥) → getD (g .args .narrow .now) (cellTaken g) 0 ≡ 1
+    → (g .args .g .cells + g .args .at .peeled < length (g .args .wide .now)) × (g .args .g .cells + g .args .g .cells + g .args .at .peeled < length (g .args .narrow .now))
+stack-in g z e =
+    let R = given g z in
+    let k : g .args .at .peeled < length (g .pre .1 .0) = room-peel _ _ _ _ _ _ _ _ R e in
+    (omega (arith, R .wide-room), omega (arith, R .narrow-room))
+
+returns : tie.Need-returns
+returns c =
+    λ hs s R.
+    let k = ready-empty _ _ hs s _ _ _ (rw (c .if1 .taken) at R) in
+    rw k R
+
+sub-t : tie.Need-sub-t
+sub-t c = search needs
+
+add-e : tie.Need-add-e
+add-e c = omega (arith, queue-in (c .before .before .before) (c .if1 .left))
+
+mul-e : tie.Need-mul-e
+mul-e c = omega (arith, queue-in (c .before .before .before) (c .if1 .left))
+
+slice-read-e : tie.Need-slice-read-e
+slice-read-e c = queue-in (c .before .before .before .before) (c .before .if1 .left)
+
+cast-p : tie.Need-cast-p
+cast-p c = omega (arith, cell-in (c .before .before .before .before) (c .before .if1 .left) .0)
+
+mul-if2 : tie.Need-mul-if2
+mul-if2 c = omega (arith, cell-in (c .before .before .before .before) (c .before .if1 .left) .0)
+
+slice-read-if2 : tie.Need-slice-read-if2
+slice-read-if2 c = cell-in (c .before .before .before .before .before) (c .before .before .if1 .left) .0
+
+returns-2 : tie.Need-returns-2
+returns-2 c =
+    λ hs s R. ready-skip _ _ hs s _ _ _ _ (ready-suc (c .before .before .before .before .before .before .args .at .top) (c .before .before .before .if1 .left) R) (c .if2 .taken)
+
+mul-h : tie.Need-mul-h
+mul-h c = omega (arith, cell-in (c .before .before .before .before .before .before) (c .before .before .before .if1 .left) .1)
+
+slice-read-h : tie.Need-slice-read-h
+slice-read-h c = cell-in (c .before .before .before .before .before .before .before) (c .before .before .before .before .if1 .left) .1
+
+add-wide : tie.Need-add-wide
+add-wide c = omega (arith, stack-in (c .before .before .before .before .before .before .before) (c .before .before .before .before .if1 .left) (c .before .if2 .left) .0)
+
+mul-wide : tie.Need-mul-wide
+mul-wide c = omega (arith, stack-in (c .before .before .before .before .before .before .before) (c .before .before .before .before .if1 .left) (c .before .if2 .left) .0)
+
+slice-write-wide : tie.Need-slice-write-wide
+slice-write-wide c = stack-in (c .before .before .before .before .before .before .before) (c .before .before .before .before .if1 .left) (c .before .if2 .left) .0
+
+add-narrow : tie.Need-add-narrow
+add-narrow c = omega (arith, stack-in (c .before .before .before .before .before .before .before) (c .before .before .before .before .if1 .left) (c .before .if2 .left) .1)
+
+add-narrow-2 : tie.Need-add-narrow-2
+add-narrow-2 c = omega (arith, stack-in (c .before .before .before .before .before .before .before) (c .before .before .before .before .if1 .left) (c .before .if2 .left) .1)
+
+mul-narrow : tie.Need-mul-narrow
+mul-narrow c = omega (arith, stack-in (c .before .before .before .before .before .before .before) (c .before .before .before .before .if1 .left) (c .before .if2 .left) .1)
+
+slice-write-narrow : tie.Need-slice-write-narrow
+slice-write-narrow c = stack-in (c .before .before .before .before .before .before .before) (c .before .before .before .before .if1 .left) (c .before .if2 .left) .1
+
+positions-requires : tie.Need-positions-requires
+positions-requires c κs = c .before .before .before .before .before .before .before .pre .0 .usable
+
+slice-aggregate-remove : tie.Need-slice-aggregate-remove
+slice-aggregate-remove c = search needs
+
+remove-requires : tie.Need-remove-requires
+remove-requires c κs =
+    let g = c .before .before .before .before .before .before .before .before .before .before .before in
+    spare _ _ _ _ _ _ _ _ (given g (c .before .before .before .before .before .before .before .before .if1 .left)) (c .before .before .before .before .before .if2 .left) _ (c .before .before .before .positions .ensures)
+
+slice-aggregate-queue-cells : tie.Need-slice-aggregate-queue-cells
+slice-aggregate-queue-cells c = search needs
+
+queue-cells-requires : tie.Need-queue-cells-requires
+queue-cells-requires c κs =
+    let g = c .before .before .before .before .before .before .before .before .before .before .before .before .before .before .before .before .before .before in
+    let R = given g (c .before .before .before .before .before .before .before .before .before .before .before .before .before .before .before .if1 .left) in
+    let e = c .before .before .before .before .before .before .before .before .before .before .before .before .if2 .left in
+    let p = c .before .before .before .before .before .before .before .before .before .before .positions .ensures in
+    let k = c .before .before .before .before .before .before .remove .ensures in (
+      omega (arith, whole-small (g .args .g) (g .pre .0)),
+      omega (arith, R .narrow-room, narrow-length _ _ _ _ _ _ _ _ R e _ p _ _ (k .0) (k .1)),
+      cells-under _ _ _ _ _ _ _ _ R e _ p,
+      room-queue _ _ _ _ _ _ _ _ R e _ p _ _ (k .0) (k .1),
+    )
+
+add-t15 : tie.Need-add-t15
+add-t15 c = omega (arith, stack-in (c .before .before .before .before .before .before .before .before .before .before .before .before .before .before .before .before .before .before .before .before .before) (c .before .before .before .before .before .before .before .before .before .before .before .before .before .before .before .before .before .before .if1 .left) (c .before .before .before .before .before .before .before .before .before .before .before .before .before .before .before .if2 .left) .0)
+
+same-length : tie.Need-same-length
+same-length c =
+    let R = given (c .before .before .before .before .before .before .before .before .before .before .before .before .before .before .before .before .before .before .before .before .before) (c .before .before .before .before .before .before .before .before .before .before .before .before .before .before .before .before .before .before .if1 .left) in
+    let e = c .before .before .before .before .before .before .before .before .before .before .before .before .before .before .before .if2 .left in
+    let p = c .before .before .before .before .before .before .before .before .before .before .before .before .before .positions .ensures in
+    let k = c .before .before .before .before .before .before .before .before .before .remove .ensures in
+    wide-length _ _ _ _ _ _ _ _ R e _ p _ _ (k .0) (k .1)
+
+same-length-2 : tie.Need-same-length-2
+same-length-2 c =
+    let R = given (c .before .before .before .before .before .before .before .before .before .before .before .before .before .before .before .before .before .before .before .before .before) (c .before .before .before .before .before .before .before .before .before .before .before .before .before .before .before .before .before .before .if1 .left) in
+    let e = c .before .before .before .before .before .before .before .before .before .before .before .before .before .before .before .if2 .left in
+    let p = c .before .before .before .before .before .before .before .before .before .before .before .before .before .positions .ensures in
+    let k = c .before .before .before .before .before .before .before .before .before .remove .ensures in
+    let q : length (c .before .before .queue-cells .last .0) ≡ length (c .before .before .before .before .before .before .before .before .before .remove .last .0) = search needs in
+    q ∙ narrow-length _ _ _ _ _ _ _ _ R e _ p _ _ (k .0) (k .1)
+
+returns-3 : tie.Need-returns-3
+returns-3 c =
+    λ hs s R.
+    let g = c .before .before .before .before .before .before .before .before .before .before .before .before .before .before .before .before .before .before .before .before .before in
+    let k = c .before .before .before .before .before .before .before .before .before .remove .ensures in
+    ready-peel _ _ hs s _ _ _ _ (ready-suc (g .args .at .top) (c .before .before .before .before .before .before .before .before .before .before .before .before .before .before .before .before .before .before .if1 .left) R) (c .before .before .before .before .before .before .before .before .before .before .before .before .before .before .before .if2 .left) _ (c .before .before .before .before .before .before .before .before .before .before .before .before .before .positions .ensures) _ _ (k .0) (k .1) _ _ (search needs) (c .before .before .queue-cells .ensures)
+
+pub step-spec : {M : Type 1} → statement M
+step-spec =
+    tie.close
+    (tie.spec
+    returns
+    sub-t
+    add-e
+    mul-e
+    slice-read-e
+    cast-p
+    mul-if2
+    slice-read-if2
+    returns-2
+    mul-h
+    slice-read-h
+    add-wide
+    mul-wide
+    slice-write-wide
+    add-narrow
+    add-narrow-2
+    mul-narrow
+    slice-write-narrow
+    positions-requires
+    slice-aggregate-remove
+    remove-requires
+    slice-aggregate-queue-cells
+    queue-cells-requires
+    add-t15
+    same-length
+    same-length-2
+    returns-3)

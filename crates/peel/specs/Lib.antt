@@ -1,0 +1,4 @@
+pub mod Peel
+pub mod Sound
+pub mod Loops
+pub mod Table

@@ -1,0 +1,75 @@
+-- How the lent workspace stands for an attempt on n hashes with c cells.
+-- The u64 part holds [xors c | hashes peeled n], the u32 part [degrees c | queue c | cells peeled n]: queue and peeled grow from the front.
+use mathlib.Core.Path.{_≡_}
+use mathlib.Core.Bool.{Bool, cond}
+use mathlib.Core.List.{List, [], _∷_}
+use Prim.Native.Nat.{ℕ, zero, suc, _+_, _-_, _<_, _≤_}
+use lib.Dec.{eqb}
+use lib.Bits.{bitXor}
+use lib.ListN.{length, getD, set}
+use Rattle.laws.specs.Count.{keep, count}
+use Rattle.peel.specs.Peel.{Peel, Attempt, lying, degree, succeeds, cellsOf}
+use Rattle.peel.specs.Sound.{Placed, Sound}
+
+-- the xor of a list of hashes
+unfoldable pub xors : List ℕ → ℕ
+xors [] = 0
+xors (h ∷ hs) = bitXor h (xors hs)
+
+-- a stack of n entries from the place `base`, the last one first
+unfoldable pub stack : (base n : ℕ) → List ℕ → List ℕ
+stack base zero xs = []
+stack base (suc n) xs = getD xs (base + n) 0 ∷ stack base n xs
+
+-- the n peeled, the last one first: hashes behind the xors, cells behind degrees and queue
+unfoldable pub peels : (c n : ℕ) (wide narrow : List ℕ) → List Peel
+peels c zero wide narrow = []
+peels c (suc n) wide narrow = record { hash = getD wide (c + n) 0; cell = getD narrow (c + c + n) 0 } ∷ peels c n wide narrow
+
+-- one more at each of the cells
+unfoldable pub raised : List ℕ → List ℕ → List ℕ
+raised [] d = d
+raised (p ∷ ps) d = raised ps (set d p (getD d p 0 + 1))
+
+-- one less
+unfoldable pub lowered : List ℕ → List ℕ → List ℕ
+lowered [] d = d
+lowered (p ∷ ps) d = lowered ps (set d p (getD d p 0 - 1))
+
+-- h xored into each of the cells
+unfoldable pub stirred : ℕ → List ℕ → List ℕ → List ℕ
+stirred h [] x = x
+stirred h (p ∷ ps) x = stirred h ps (set x p (bitXor (getD x p 0) h))
+
+-- the queue after those of the cells that have 1 in d were put on it
+unfoldable pub noted : List ℕ → List ℕ → List ℕ → List ℕ
+noted d [] q = q
+noted d (p ∷ ps) q = noted d ps (keep (eqb (getD d p 0) 1) p q)
+
+-- the queue is q, of r cells; degrees and peeled cells are as they were
+pub record Queued (c : ℕ) (q : List ℕ) (r : ℕ) (before after : List ℕ) : Type 0 where
+  pub waiting : stack c r after ≡ q
+  pub degrees : (v : ℕ) → v < c → getD after v 0 ≡ getD before v 0
+  pub behind : (v : ℕ) → c + c ≤ v → getD after v 0 ≡ getD before v 0
+
+-- the first c of d and x are the degrees and the xors of the cells for the hashes hs
+pub record Tables (pos : ℕ → List ℕ) (c : ℕ) (hs d x : List ℕ) : Type 0 where
+  pub degrees : c ≤ length d
+  pub mixes : c ≤ length x
+  pub degree-at : (v : ℕ) → v < c → getD d v 0 ≡ degree pos v hs
+  pub xor-at : (v : ℕ) → v < c → getD x v 0 ≡ xors (lying pos v hs)
+
+-- the workspace stands for the attempt s on the hashes hs: top cells queued, n hashes peeled
+pub record Ready (pos : ℕ → List ℕ) (c : ℕ) (hs : List ℕ) (s : Attempt) (wide narrow : List ℕ) (top n : ℕ) : Type 0 where
+  pub placed : (h : ℕ) → 1 ≤ count h hs → Placed c pos h
+  pub sound : Sound pos c hs s
+  pub tables : Tables pos c (s .left) narrow wide
+  pub waiting : s .queue ≡ stack c top narrow
+  pub peeled : s .peeled ≡ peels c n wide narrow
+  pub wide-room : c + length hs ≤ length wide
+  pub narrow-room : c + c + length hs ≤ length narrow
+
+-- an attempt's outcome: whether every hash was peeled; the cells filled if so, and else left as they were
+pub record Tried (segment count seed : ℕ) (hashes before after : List ℕ) (r : Bool) : Type 0 where
+  pub answer : r ≡ succeeds segment count seed hashes
+  pub cells : after ≡ cond (succeeds segment count seed hashes) (cellsOf segment count seed hashes) before
