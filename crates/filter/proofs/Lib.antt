@@ -4,3 +4,5 @@ pub mod WriteLaws
 pub mod Exact
 pub mod Unique
 pub mod Figures
+pub mod TwinLaws
+pub mod BuildingLaws
