@@ -1,8 +1,8 @@
 pub mod ReadLaws
 pub mod AskLaws
 pub mod WriteLaws
-pub mod Exact
-pub mod Unique
+pub mod ExactLaws
+pub mod UniqueLaws
 pub mod Figures
 pub mod TwinLaws
 pub mod BuildingLaws

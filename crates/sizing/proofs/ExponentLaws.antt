@@ -13,8 +13,8 @@ use borrow.Author.Tests.{leb-true, le-leb, eqb-true}
 use Rattle.laws.specs.Power.{PowerOfTwo}
 use Rattle.sizing.specs.Table.{leasts}
 use Rattle.sizing.specs.Sizing.{rule, greatest, sizedAs, exponentOf, segmentOf, upTo}
-use Rattle.sizing.proofs.Search.{upTo-yes}
-use Rattle.sizing.proofs.Rows.{walk, At, row}
+use Rattle.sizing.proofs.SearchLaws.{upTo-yes}
+use Rattle.sizing.proofs.RowLaws.{walk, At, row}
 
 rule-mono : (k : ℕ) {m n : ℕ} → m ≤ n → rule k m ≡ true → rule k n ≡ true
 unfolding rule

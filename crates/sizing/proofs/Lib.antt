@@ -1,4 +1,4 @@
-pub mod Search
-pub mod Rows
+pub mod SearchLaws
+pub mod RowLaws
 pub mod ExponentLaws
 pub mod SizedLaws

@@ -14,8 +14,8 @@ use Rattle.fuse.specs.Layout.{Accepted}
 use Rattle.sizing.specs.declared.Plan.the-variants.{Positive, Fuse}
 use Rattle.sizing.specs.Table.{largest, firsts, segments}
 use Rattle.sizing.specs.Sizing.{rule, greatest, exponentOf, segmentOf, upTo, segmentsOf, cellsOf, sizesOf, planOf, rises, risesFrom}
-use Rattle.sizing.proofs.Search.{upTo-yes}
-use Rattle.sizing.proofs.Rows.{walk, row}
+use Rattle.sizing.proofs.SearchLaws.{upTo-yes}
+use Rattle.sizing.proofs.RowLaws.{walk, row}
 use Rattle.sizing.proofs.ExponentLaws.{exponent-mono, segment-most, segment-power}
 
 -- ---- the rule, over the whole table

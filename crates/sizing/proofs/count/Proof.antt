@@ -7,7 +7,7 @@ use borrow.Author.Needs.{needs}
 use lib.ListN.{length, getD}
 use Rattle.sizing.specs.Table.{firsts, segments}
 use Rattle.sizing.specs.Sizing.{upTo, segmentsOf, rises, risesFrom}
-use Rattle.sizing.proofs.Search.{upTo-length}
+use Rattle.sizing.proofs.SearchLaws.{upTo-length}
 use Rattle.sizing.proofs.SizedLaws.{row-of, same-length, segments-within}
 use Rattle.sizing.proofs.count.Statement.{statement}
 use Rattle.sizing.proofs.count.Tie as tie

@@ -5,7 +5,7 @@ use native.Mathlib.Omega.{arith}
 use borrow.Author.Needs.{needs}
 use lib.ListN.{length}
 use Rattle.sizing.specs.Sizing.{upTo}
-use Rattle.sizing.proofs.Search.{upTo-length, upTo-back, upTo-front}
+use Rattle.sizing.proofs.SearchLaws.{upTo-length, upTo-back, upTo-front}
 use Rattle.sizing.proofs.up_to.Statement.{statement}
 use Rattle.sizing.proofs.up_to.Tie as tie
 

@@ -19,7 +19,7 @@ returns-2 c =
 returns-3 : tie.Need-returns-3
 returns-3 c =
     let a = c .before .before .before .args in
-    not-fitting (a .s) (a .cells) (λ u. c .if3 .taken (accepted-ones (a .s) (a .cells) u))
+    not-fitting (a .s) (a .cells) (λ u. omega (arith, c .if3 .taken, accepted-ones (a .s) (a .cells) u))
 
 returns-4 : tie.Need-returns-4
 returns-4 c =
@@ -53,7 +53,7 @@ returns-6 c =
 returns-7 : tie.Need-returns-7
 returns-7 c =
     let a = c .before .before .before .before .before .before .args in
-    fitting-last (a .s) (a .cells) (omega arith) (omega arith) (c .before .before .before .if3 .left) (omega arith) (omega arith) (omega arith)
+    fitting-last (a .s) (a .cells) (omega arith) (omega arith) (omega arith) (omega arith) (omega arith) (omega arith)
 
 pub fits-spec : {M : Type 1} → statement M
 fits-spec =

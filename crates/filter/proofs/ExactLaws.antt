@@ -1,7 +1,7 @@
 -- Reading accepts exactly the two layouts; refusal 15 has its exact cause; accepted bytes written again are the same bytes.
 -- Assumes nothing.
 use mathlib.Core.Path.{_≡_, refl, sym, ap, _∙_, subst}
-use mathlib.Core.Bool.{true, false}
+use mathlib.Core.Bool.{Bool, true, false, cond}
 use mathlib.Core.List.{List, [], _∷_, _++_, append-nil}
 use Prim.Native.Nat.{ℕ, suc, _+_, _-_, _^_, _≤_, _<_}
 use native.Mathlib.Omega.{arith}
@@ -13,16 +13,20 @@ use Rattle.words.specs.Part.{sameAs}
 use Rattle.words.proofs.Laws.{AllBytes, le-lt}
 use Rattle.words.proofs.Ordered.{same-self}
 use Rattle.fuse.specs.declared.Sizes.{Sizes}
+use Rattle.fuse.specs.Asking.{containsOf}
 use Rattle.fuse.specs.Layout.{magic, positiveBytes, headerOf, sizesIn, fuseLaid, Accepted}
 use Rattle.fuse.proofs.FitLaws.{fitting-accepted, accepted-fitting, cells-some}
 use Rattle.fuse.proofs.HeaderLaws.{header-length, sizes-back}
 use Rattle.filter.specs.declared.SstFilter.{SstFilter}
 use Rattle.filter.specs.declared.SstFilter.the-variants.{Positive, Fuse, Refused}
+use Rattle.filter.specs.declared.Answer.the-variants as answer
 use Rattle.filter.specs.declared.Written.{Written}
 use Rattle.filter.specs.declared.Written.the-variants.{Length}
 use Rattle.filter.specs.Reading.{readOf, frontOf, acceptable, Layout, positive, fuse}
+use Rattle.filter.specs.Asking.{askOf}
 use Rattle.filter.specs.Writing.{bytesFor, writeOf, outputBy, WritePost}
 use Rattle.filter.proofs.ReadLaws.{read-positive, read-other, positive-bytes, fuse-sizes, fuse-accepted, fuse-bytes}
+use Rattle.filter.proofs.AskLaws.{ask-positive, ask-refused, ask-fuse}
 use Rattle.filter.proofs.WriteLaws.{front-length}
 
 -- ---- what has a layout is read as it was laid out
@@ -133,3 +137,25 @@ written-again bytes filter e n out after r l w =
       w .answer ∙ k,
       w .output ∙ ap (λ (q : Written). outputBy q filter (drop 48 bytes) out) k ∙ ap (splice out 0) (same-again bytes filter e n),
     )
+
+-- ---- asking refuses exactly where reading does
+
+pub ask-refuses : (bytes : List ℕ) (hash : ℕ) → readOf bytes ≡ Refused → askOf bytes hash ≡ answer.Refused
+unfolding askOf
+ask-refuses bytes hash e = sym (ask-refused (readOf bytes) (drop 48 bytes) hash e)
+
+pub ask-answers : (bytes : List ℕ) (hash : ℕ) → askOf bytes hash ≡ answer.Refused → readOf bytes ≡ Refused
+unfolding askOf
+ask-answers bytes hash a = by-case (readOf bytes) refl
+  where
+    not-refused : (t : Bool) → cond t answer.Maybe answer.Absent ≡ answer.Refused → readOf bytes ≡ Refused
+    not-refused true q = cc
+    not-refused false q = cc
+
+    by-case : (filter : SstFilter) → readOf bytes ≡ filter → readOf bytes ≡ Refused
+    by-case Positive e = let m = ask-positive (readOf bytes) (drop 48 bytes) hash e in cc
+    by-case (Fuse s) e =
+        let f = accepted-fitting s (length (drop 48 bytes)) (cells-accepted bytes s e) in
+        not-refused (containsOf (drop 48 bytes) s hash)
+        (ask-fuse (readOf bytes) (drop 48 bytes) hash s e (containsOf (drop 48 bytes) s hash) (sym f) refl ∙ a)
+    by-case Refused e = e

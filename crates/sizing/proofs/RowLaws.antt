@@ -9,7 +9,7 @@ use lib.Dec.{leb}
 use lib.ListN.{getD}
 use borrow.Author.Tests.{leb-true, leb-false}
 use Rattle.sizing.specs.Sizing.{upTo}
-use Rattle.sizing.proofs.Search.{upTo-yes, upTo-no}
+use Rattle.sizing.proofs.SearchLaws.{upTo-yes, upTo-no}
 
 -- the test passes at each row: its place, its first key count, the next row's, and its number
 unfoldable pub walk : (ℕ → ℕ → ℕ → ℕ → Bool) → (end i f : ℕ) → List ℕ → List ℕ → Bool
