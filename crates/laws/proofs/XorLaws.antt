@@ -45,8 +45,5 @@ pub xor-swap : (a b c : ℕ) → bitXor a (bitXor b c) ≡ bitXor b (bitXor a c)
 xor-swap a b c = sym (xor-assoc a b c) ∙ ap (λ (x : ℕ). bitXor x c) (xor-comm a b) ∙ xor-assoc b a c
 
 -- the same number twice is nothing
-pub xor-twice : (a b : ℕ) → bitXor a (bitXor a b) ≡ b
-xor-twice a b = sym (xor-assoc a a b) ∙ ap (λ (x : ℕ). bitXor x b) (xor-self a) ∙ xor-zero-l b
-
 pub xor-back : (a b : ℕ) → bitXor (bitXor a b) b ≡ a
 xor-back a b = xor-assoc a b b ∙ ap (bitXor a) (xor-self b) ∙ xor-zero-r a

@@ -9,38 +9,35 @@ use lib.Dec.{eqb}
 use lib.ListN.{length, replicate, length-set, length-replicate, length-map}
 use Rattle.laws.specs.Count.{one, count}
 use Rattle.laws.proofs.CountLaws.{by-test, count-nil, count-cons, count-here}
-use Rattle.fuse.specs.Asking.{graphHash, xorAt}
-use Rattle.fuse.specs.Positions.{cellsIn, positionsOf}
+use Rattle.fuse.specs.Asking.{graphHash, xorAt, containsOf}
+use Rattle.fuse.specs.Positions.{Usable, cellsIn, positionsOf}
+use Rattle.fuse.specs.declared.Sizes.{Sizes}
 use Rattle.peel.specs.declared.Graph.{Graph}
-use Rattle.peel.specs.Peel.{Peel, start, run, attempt, fill, put, peelsAll, filled, mixed, succeeds, cellsOf}
+use Rattle.peel.specs.Peel.{Peel, afterSteps, attempt, fill, put, peelsAll, filled, mixed, succeeds, cellsOf}
 use Rattle.peel.specs.Loops.{Whole}
+use Rattle.peel.specs.Sound.{Placed}
 use Rattle.peel.specs.Table.{peels, Ready, Tried}
-use Rattle.peel.proofs.PeelLaws.{sound-start, sound-run, room, queued-once, attempt-ends, all-present}
+use Rattle.peel.proofs.PeelLaws.{sound-start, sound-run, room, queued-once, run-ends, all-present}
 use Rattle.peel.proofs.PlaceLaws.{mixed-placed}
 use Rattle.peel.proofs.StepLaws.{all-peeled}
 
-module _ (g : Graph) (w : Whole g) (hashes : List ℕ) where
+module _ (segment number seed : ℕ) (u : Usable segment number) (hashes : List ℕ) where
+  placed : (h : ℕ) → 1 ≤ count h (mixed seed hashes) → Placed (cellsIn segment number) (positionsOf segment number) h
+  placed = mixed-placed segment number u seed hashes
+
   -- over a whole attempt each cell is queued at most once: after any number of steps it was taken, or waits, once at most
-  pub cell-queued-once : (steps cell : ℕ)
-      → count cell (run (positionsOf (g .segment) (g .count)) steps (start (positionsOf (g .segment) (g .count)) (g .cells) (mixed (g .seed) hashes)) .taken)
-      + count cell (run (positionsOf (g .segment) (g .count)) steps (start (positionsOf (g .segment) (g .count)) (g .cells) (mixed (g .seed) hashes)) .queue)
-      ≤ 1
-  cell-queued-once steps cell =
-      queued-once (positionsOf (g .segment) (g .count)) (g .cells) (mixed (g .seed) hashes) (mixed-placed g w (g .seed) hashes) steps cell
+  pub cell-queued-once : (steps cell : ℕ) → count cell (afterSteps segment number seed hashes steps .taken) + count cell (afterSteps segment number seed hashes steps .queue) ≤ 1
+  cell-queued-once steps cell = queued-once (positionsOf segment number) (cellsIn segment number) (mixed seed hashes) placed steps cell
 
   -- so as many places as there are cells are enough for all that were taken or wait
-  pub queue-fits : (steps : ℕ)
-      → length (run (positionsOf (g .segment) (g .count)) steps (start (positionsOf (g .segment) (g .count)) (g .cells) (mixed (g .seed) hashes)) .taken)
-      + length (run (positionsOf (g .segment) (g .count)) steps (start (positionsOf (g .segment) (g .count)) (g .cells) (mixed (g .seed) hashes)) .queue)
-      ≤ g .cells
+  pub queue-fits : (steps : ℕ) → length (afterSteps segment number seed hashes steps .taken) + length (afterSteps segment number seed hashes steps .queue) ≤ cellsIn segment number
   queue-fits steps =
-      room (positionsOf (g .segment) (g .count)) (g .cells) (mixed (g .seed) hashes) _
-      (sound-run (positionsOf (g .segment) (g .count)) (g .cells) (mixed (g .seed) hashes) (mixed-placed g w (g .seed) hashes) steps _
-      (sound-start (positionsOf (g .segment) (g .count)) (g .cells) (mixed (g .seed) hashes)))
+      room (positionsOf segment number) (cellsIn segment number) (mixed seed hashes) _
+      (sound-run (positionsOf segment number) (cellsIn segment number) (mixed seed hashes) placed steps _ (sound-start (positionsOf segment number) (cellsIn segment number) (mixed seed hashes)))
 
   -- an attempt ends: as many steps as there are cells empty the queue
-  pub queue-empties : attempt (positionsOf (g .segment) (g .count)) (g .cells) (mixed (g .seed) hashes) .queue ≡ []
-  queue-empties = attempt-ends (positionsOf (g .segment) (g .count)) (g .cells) (mixed (g .seed) hashes) (mixed-placed g w (g .seed) hashes)
+  pub queue-empties : afterSteps segment number seed hashes (cellsIn segment number) .queue ≡ []
+  queue-empties = run-ends (positionsOf segment number) (cellsIn segment number) (mixed seed hashes) placed (cellsIn segment number) _ (sound-start (positionsOf segment number) (cellsIn segment number) (mixed seed hashes)) (omega arith)
 
 -- ---- by the hashes left
 
@@ -79,14 +76,19 @@ mixed-count seed hash (x ∷ hashes) k =
       count-cons (graphHash seed hash) (graphHash seed x) (mixed seed hashes),
     ))
 
-module _ (g : Graph) (w : Whole g) (hashes : List ℕ) (ok : succeeds (g .segment) (g .count) (g .seed) hashes ≡ true) where
+module _ (segment number seed : ℕ) (u : Usable segment number) (hashes : List ℕ) (ok : succeeds segment number seed hashes ≡ true) where
   -- if every hash was peeled, every hash's four cells xor to the low byte of its h
   pub hashes-present : (hash : ℕ) → 1 ≤ count hash hashes
-      → xorAt (cellsOf (g .segment) (g .count) (g .seed) hashes) (positionsOf (g .segment) (g .count) (graphHash (g .seed) hash)) ≡ graphHash (g .seed) hash % 256
+      → xorAt (cellsOf segment number seed hashes) (positionsOf segment number (graphHash seed hash)) ≡ graphHash seed hash % 256
   hashes-present hash k =
-      all-present (positionsOf (g .segment) (g .count)) (cellsIn (g .segment) (g .count)) (mixed (g .seed) hashes)
-      (λ h m. rw (w .cells-are) at (mixed-placed g w (g .seed) hashes h m))
-      (all-left (positionsOf (g .segment) (g .count)) (cellsIn (g .segment) (g .count)) (mixed (g .seed) hashes) ok) _ (mixed-count (g .seed) hash hashes k)
+      all-present (positionsOf segment number) (cellsIn segment number) (mixed seed hashes) (mixed-placed segment number u seed hashes)
+      (all-left (positionsOf segment number) (cellsIn segment number) (mixed seed hashes) ok) _ (mixed-count seed hash hashes k)
+
+-- so the closing membership check never fails
+pub check-never-fails : (s : Sizes) → Usable (s .segment) (s .count) → (hashes : List ℕ) → succeeds (s .segment) (s .count) (s .seed) hashes ≡ true
+    → (hash : ℕ) → 1 ≤ count hash hashes → containsOf (cellsOf (s .segment) (s .count) (s .seed) hashes) s hash ≡ true
+unfolding containsOf
+check-never-fails s u hashes ok hash k = eq-eqb _ _ (hashes-present (s .segment) (s .count) (s .seed) u hashes ok hash k)
 
 -- ---- the cells are as many as the sizes say
 
@@ -95,9 +97,9 @@ unfolding fill
 fill-length pos [] cells = refl
 fill-length pos (e ∷ es) cells = fill-length pos es (put pos e cells) ∙ length-set cells (e .cell) _
 
-pub cells-length : (segment count seed : ℕ) (hashes : List ℕ) → length (cellsOf segment count seed hashes) ≡ cellsIn segment count
+pub cells-length : (segment number seed : ℕ) (hashes : List ℕ) → length (cellsOf segment number seed hashes) ≡ cellsIn segment number
 unfolding filled
-cells-length segment count seed hashes = fill-length (positionsOf segment count) _ _ ∙ length-replicate (cellsIn segment count) 0
+cells-length segment number seed hashes = fill-length (positionsOf segment number) _ _ ∙ length-replicate (cellsIn segment number) 0
 
 -- ---- the outcome
 

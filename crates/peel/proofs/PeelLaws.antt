@@ -281,11 +281,6 @@ module _ (pos : ℕ → List ℕ) (c : ℕ) (hs : List ℕ) (placed : (h : ℕ) 
   unfolding attempt
   sound-attempt = sound-run pos c hs placed c (start pos c hs) (sound-start pos c hs)
 
-  -- the queue is empty at its end
-  pub attempt-ends : attempt pos c hs .queue ≡ []
-  unfolding attempt
-  attempt-ends = run-ends c (start pos c hs) (sound-start pos c hs) (omega arith)
-
   -- no cell is queued twice in an attempt: at each step, taken or waiting, it stands once at most
   pub queued-once : (n v : ℕ) → count v (run pos n (start pos c hs) .taken) + count v (run pos n (start pos c hs) .queue) ≤ 1
   queued-once n v = sound-run pos c hs placed n (start pos c hs) (sound-start pos c hs) .once v

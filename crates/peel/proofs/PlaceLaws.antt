@@ -49,9 +49,13 @@ graph-lt seed hash = mixOf-lt _
 pub graph-placed : (g : Graph) → Whole g → (seed hash h : ℕ) → h ≡ graphHash seed hash → Placed (g .cells) (positionsOf (g .segment) (g .count)) h
 graph-placed g w seed hash h e = rw (w .cells-are) (positions-placed (g .segment) (g .count) h (w .usable) (rw e (graph-lt seed hash)))
 
-pub mixed-placed : (g : Graph) → Whole g → (seed : ℕ) (hashes : List ℕ) (h : ℕ) → 1 ≤ count h (mixed seed hashes) → Placed (g .cells) (positionsOf (g .segment) (g .count)) h
-mixed-placed g w seed [] h k = absurd (omega (arith, count-nil h))
-mixed-placed g w seed (x ∷ hashes) h k =
+pub mixed-placed : (segment number : ℕ) → Usable segment number → (seed : ℕ) (hashes : List ℕ) (h : ℕ) → 1 ≤ count h (mixed seed hashes)
+    → Placed (cellsIn segment number) (positionsOf segment number) h
+mixed-placed segment number u seed [] h k = absurd (omega (arith, count-nil h))
+mixed-placed segment number u seed (x ∷ hashes) h k =
     by-test (eqb h (graphHash seed x))
-    (λ e. graph-placed g w seed x h (eqb-true h (graphHash seed x) e))
-    (λ e. mixed-placed g w seed hashes h (omega (arith, count-other h (graphHash seed x) (mixed seed hashes) (eqb-false h (graphHash seed x) e))))
+    (λ e. positions-placed segment number h u (rw (eqb-true h (graphHash seed x) e) (graph-lt seed x)))
+    (λ e. mixed-placed segment number u seed hashes h (omega (arith, count-other h (graphHash seed x) (mixed seed hashes) (eqb-false h (graphHash seed x) e))))
+
+pub whole-placed : (g : Graph) → Whole g → (hashes : List ℕ) (h : ℕ) → 1 ≤ count h (mixed (g .seed) hashes) → Placed (g .cells) (positionsOf (g .segment) (g .count)) h
+whole-placed g w hashes h k = rw (w .cells-are) (mixed-placed (g .segment) (g .count) (w .usable) (g .seed) hashes h k)

@@ -103,6 +103,10 @@ module _ (pos : ℕ → List ℕ) where
 abbrev pub mixed : (seed : ℕ) → List ℕ → List ℕ
 mixed seed hashes = map (graphHash seed) hashes
 
+-- the attempt with this seed after so many steps
+abbrev pub afterSteps : (segment count seed : ℕ) → List ℕ → (steps : ℕ) → Attempt
+afterSteps segment count seed hashes steps = run (positionsOf segment count) steps (start (positionsOf segment count) (cellsIn segment count) (mixed seed hashes))
+
 -- whether the attempt with this seed peels every hash
 abbrev pub succeeds : (segment count seed : ℕ) → List ℕ → Bool
 succeeds segment count seed hashes = peelsAll (positionsOf segment count) (cellsIn segment count) (mixed seed hashes)

@@ -151,9 +151,9 @@ fn load(hashes: &[u64], wide: &mut [u64], narrow: &mut [u32], g: Graph)
 }
 
 // How far an attempt is: cells on the queue, and hashes peeled.
-pub struct Progress {
-    pub top: usize,
-    pub peeled: usize,
+struct Progress {
+    top: usize,
+    peeled: usize,
 }
 
 // One step: the last cell of the queue is taken, and its one hash peeled if there is exactly one.

@@ -9,7 +9,7 @@ use Rattle.fuse.specs.Asking.{graphHash}
 use Rattle.fuse.specs.Positions.{positionsOf}
 use Rattle.peel.specs.Peel.{start, mixed}
 use Rattle.peel.specs.Table.{Ready}
-use Rattle.peel.proofs.PlaceLaws.{whole-small, mixed-placed}
+use Rattle.peel.proofs.PlaceLaws.{whole-small, whole-placed}
 use Rattle.peel.proofs.TableLaws.{tables-none}
 use Rattle.peel.proofs.StepLaws.{ready-start}
 use Rattle.peel.proofs.peel_hashes.Statement.{statement}
@@ -26,7 +26,7 @@ begun k =
     let m = length-map (a .hashes .now) (graphHash (a .g .seed)) in
     let w : length (k .before .before .before .before .before .before .before .before .load .last .1 .0) ≡ length (a .wide .now) = search needs in
     let n : length (k .before .before .before .before .before .before .before .before .load .last .1 .1 .0) ≡ length (a .narrow .now) = search needs in
-    ready-start _ (a .g .cells) (mixed (a .g .seed) (a .hashes .now)) _ (k .before .before .before .before .before .before .before .before .load .last .1 .1 .0) _ _ (mixed-placed (a .g) (s .pre .0) (a .g .seed) (a .hashes .now)) (k .before .before .before .before .before .before .before .before .load .ensures)
+    ready-start _ (a .g .cells) (mixed (a .g .seed) (a .hashes .now)) _ (k .before .before .before .before .before .before .before .before .load .last .1 .1 .0) _ _ (whole-placed (a .g) (s .pre .0) (a .hashes .now)) (k .before .before .before .before .before .before .before .before .load .ensures)
     (k .before .before .queue-ones .ensures) (search needs) (omega arith) (omega arith)
 
 clear-wide-requires : tie.Need-clear-wide-requires
