@@ -4,36 +4,35 @@ use mathlib.Core.Bool.{Bool, true, false, cond}
 use mathlib.Core.List.{List, [], _∷_, _++_, append-assoc}
 use Prim.Native.Nat.{ℕ, zero, suc, _+_, _-_, _*_, _^_, _≤_, _<_}
 use native.Mathlib.Omega.{arith}
-use lib.Dec.{eqb}
-use lib.ListN.{length, getD, take, drop, replicate, length-append, length-drop}
+use lib.Dec.{ltb, eqb}
+use lib.ListN.{length, getD, take, drop, replicate, length-append}
 use lib.Seq.{drop-drop}
-use borrow.Author.Tests.{lt-ltb, le-ltb, ltb-false, eqb-true, eqb-false, eq-eqb}
-use borrow.Rule.Slice.PartMut.{putMid, put-same}
-use Rattle.laws.specs.Refusals.{Cause, cause, firstOf, First, here, later, None, none-here, none-more, Numbered, numbered-none, numbered-more, first-given, none-given, none-only}
+use borrow.Author.Tests.{lt-ltb, le-ltb, ltb-false, eqb-false}
+use borrow.Rule.Slice.PartMut.{putMid, put-same, mid-len}
+use Rattle.laws.specs.Refusals.{None, none-here, none-more, Numbered, numbered-none, numbered-more, none-only}
 use Rattle.laws.specs.Count.{count}
-use Rattle.laws.proofs.CountLaws.{by-test, count-cons, count-here, count-nil}
+use Rattle.laws.proofs.CountLaws.{by-test, count-cons, count-here}
 use Rattle.words.specs.Field.{splice}
 use Rattle.words.proofs.Laws.{drop-splice-in}
 use Rattle.mixing.specs.Mixing.{mixOf}
 use Rattle.fuse.specs.declared.Sizes.{Sizes}
-use Rattle.fuse.specs.Positions.{cellsIn, Usable, positionsOf}
-use Rattle.fuse.specs.Asking.{Fits, graphHash, xorAt, containsOf}
+use Rattle.fuse.specs.Positions.{cellsIn, Usable}
+use Rattle.fuse.specs.Asking.{containsOf}
 use Rattle.fuse.specs.Layout.{positiveBytes, headerOf}
-use Rattle.fuse.proofs.HeaderLaws.{header-length, positive-length}
+use Rattle.fuse.proofs.HeaderLaws.{header-length}
 use Rattle.sizing.specs.declared.Plan.{Plan}
 use Rattle.sizing.specs.declared.Plan.the-variants as plan
-use Rattle.sizing.specs.Sizing.{segmentOf, segmentsOf, sizesOf, planOf}
+use Rattle.sizing.specs.Sizing.{sizesOf, planOf}
 use Rattle.sizing.proofs.SizedLaws.{usable}
 use Rattle.sort.specs.Sort.{sorted}
+use Rattle.sort.specs.Twins.{twins}
 use Rattle.sort.proofs.SortLaws.{length-sorted}
-use Rattle.peel.specs.declared.Graph.{Graph}
 use Rattle.peel.specs.Peel.{succeeds, cellsOf}
-use Rattle.peel.specs.Loops.{Whole}
 use Rattle.peel.specs.Table.{Tried}
-use Rattle.peel.proofs.AttemptLaws.{hashes-present, cells-length}
+use Rattle.peel.proofs.AttemptLaws.{check-never-fails, cells-length}
 use Rattle.filter.specs.declared.Built.{Built}
 use Rattle.filter.specs.declared.Built.the-variants.{Positive, Fuse, Refused}
-use Rattle.filter.specs.Building.{planCells, cellsFor, buildCauses, buildRefusal, Roomy, twins, peelsBy, firstFrom, attemptOf, seeded, byAttempt, byPlan, builtOf, unlessRefused, buildOf, cellsBy, outBy, hashesBy, spaceBy, BuildPost, Spaced, Searched, Constructed, Missing, madeBy, Made, Laid}
+use Rattle.filter.specs.Building.{cellsFor, buildCauses, buildRefusal, Roomy, peelsBy, firstFrom, attemptOf, seeded, byAttempt, byPlan, builtOf, unlessRefused, buildOf, cellsBy, outBy, hashesBy, spaceBy, BuildPost, Spaced, Searched, Constructed, Missing, madeBy, Made, Laid}
 
 -- ---- the plan
 
@@ -64,40 +63,60 @@ module _ (n : ℕ) (s : Sizes) (e : planOf n ≡ plan.Fuse s) where
   unfolding sizesOf
   plan-usable l = subst (λ (x : Sizes). Usable (x .segment) (x .count)) plan-sizes (usable n plan-some l)
 
+-- 65,536 hashes ask for no more cells than a word holds
+pub cells-few : (n : ℕ) → n < 2 ^ 64 → cellsFor n < 2 ^ 32
+cells-few n l = go (planOf n) refl
+  where
+    go : (p : Plan) → planOf n ≡ p → cellsFor n < 2 ^ 32
+    go plan.Positive e = omega (arith, cells-none n e)
+    go (plan.Fuse s) e = omega (arith, plan-cells n s e, plan-usable n s e l .small)
+
 -- ---- the checks
 
 module _ (n wide narrow out : ℕ) where
   pub refuse-many : 65536 < n → 12 ≡ buildRefusal n wide narrow out
   unfolding buildRefusal
-  refuse-many l = sym (first-given (here (lt-ltb _ _ l) refl))
+  refuse-many l = rw (lt-ltb 65536 n l)
 
   module _ (c : ℕ) (e : c ≡ cellsFor n) (few : n ≤ 65536) where
     pub refuse-wide : wide < c + n → 9 ≡ buildRefusal n wide narrow out
     unfolding buildRefusal
-    refuse-wide l = sym (first-given (later (le-ltb _ _ few) (here (lt-ltb _ _ (omega arith)) refl)))
+    refuse-wide l =
+        let k : wide < cellsFor n + n = omega arith in
+        rw (le-ltb 65536 n few, lt-ltb wide (cellsFor n + n) k)
 
     module _ (w : c + n ≤ wide) where
+      wide-passes : ltb wide (cellsFor n + n) ≡ false
+      wide-passes = let k : cellsFor n + n ≤ wide = omega arith in le-ltb wide (cellsFor n + n) k
+
       pub refuse-narrow : narrow < 2 * c + n → 9 ≡ buildRefusal n wide narrow out
       unfolding buildRefusal
-      refuse-narrow l = sym (first-given (later (le-ltb _ _ few) (later (le-ltb _ _ (omega arith)) (here (lt-ltb _ _ (omega arith)) refl))))
+      refuse-narrow l =
+          let k : narrow < 2 * cellsFor n + n = omega arith in
+          rw (le-ltb 65536 n few, wide-passes, lt-ltb narrow (2 * cellsFor n + n) k)
 
       module _ (m : 2 * c + n ≤ narrow) where
+        narrow-passes : ltb narrow (2 * cellsFor n + n) ≡ false
+        narrow-passes = let k : 2 * cellsFor n + n ≤ narrow = omega arith in le-ltb narrow (2 * cellsFor n + n) k
+
         pub refuse-out : out < 48 + c → 6 ≡ buildRefusal n wide narrow out
         unfolding buildRefusal
         refuse-out l =
-            sym (first-given
-            (later (le-ltb _ _ few) (later (le-ltb _ _ (omega arith)) (later (le-ltb _ _ (omega arith)) (here (lt-ltb _ _ (omega arith)) refl)))))
+            let k : out < 48 + cellsFor n = omega arith in
+            rw (le-ltb 65536 n few, wide-passes, narrow-passes, lt-ltb out (48 + cellsFor n) k)
 
         pub refuse-none : 48 + c ≤ out → 0 ≡ buildRefusal n wide narrow out
         unfolding buildRefusal
         refuse-none l =
-            sym (none-given
-            (none-more (le-ltb _ _ few)
-            (none-more (le-ltb _ _ (omega arith)) (none-more (le-ltb _ _ (omega arith)) (none-more (le-ltb _ _ (omega arith)) none-here)))))
+            let k : 48 + cellsFor n ≤ out = omega arith in
+            rw (le-ltb 65536 n few, wide-passes, narrow-passes, le-ltb out (48 + cellsFor n) k)
 
   pub build-numbered : Numbered (buildCauses n wide narrow out)
   build-numbered =
-      numbered-more (omega arith) (numbered-more (omega arith) (numbered-more (omega arith) (numbered-more (omega arith) numbered-none)))
+      let a : 0 < 12 = omega arith in
+      let b : 0 < 9 = omega arith in
+      let d : 0 < 6 = omega arith in
+      numbered-more a (numbered-more b (numbered-more b (numbered-more d numbered-none)))
 
   all-pass : None (buildCauses n wide narrow out) → Roomy n wide narrow out
   all-pass (none-more a (none-more b (none-more c (none-more d none-here)))) =
@@ -186,15 +205,6 @@ module _ (s : Sizes) (hs before after : List ℕ) (seed i : ℕ) (r : Bool) (T :
 
 -- ---- the closing check
 
--- if an attempt peels every hash, its filter holds every hash
-pub peeled-present : (s : Sizes) (hs : List ℕ) (seed hash : ℕ) → Usable (s .segment) (s .count) → succeeds (s .segment) (s .count) seed hs ≡ true
-    → 1 ≤ count hash hs → containsOf (cellsOf (s .segment) (s .count) seed hs) (seeded s seed) hash ≡ true
-unfolding containsOf
-peeled-present s hs seed hash u t k =
-    eq-eqb _ _ (hashes-present
-    (record { seed = seed; segment = s .segment; count = s .count; cells = cellsIn (s .segment) (s .count) })
-    (record { usable = u; cells-are = refl }) hs t hash k)
-
 -- what stands in a list is counted
 pub counted-at : (xs : List ℕ) (i : ℕ) → i < length xs → 1 ≤ count (getD xs i 0) xs
 counted-at [] i l = absurd (omega arith)
@@ -227,7 +237,7 @@ module _ (s : Sizes) (hs before after : List ℕ) (i : ℕ) (S : Searched s hs b
         let t : succeeds (s .segment) (s .count) seed hs ≡ true =
         ap (λ (x : ℕ). succeeds (s .segment) (s .count) x hs) e ∙ attempt-peels s hs i (S .first) some in
         let y : containsOf after (seeded s seed) (m .hash) ≡ true =
-        ap (λ (c : List ℕ). containsOf c (seeded s seed) (m .hash)) cells-are ∙ peeled-present s hs seed (m .hash) u t (m .given) in
+        ap (λ (c : List ℕ). containsOf c (seeded s seed) (m .hash)) cells-are ∙ check-never-fails (seeded s seed) u hs t (m .hash) (m .given) in
         let n = m .absent in
         let z : true ≡ false = sym y ∙ n in
         let w : _≡_ {A = ℕ} 0 1 = cc in omega arith
@@ -260,24 +270,43 @@ module _ (hs out : List ℕ) where
   unfolding byPlan
   made-none e = record { answer = ap (λ (p : Plan). byPlan p hs) (sym e); output = refl }
 
-  pub made-some : (s : Sizes) → planOf (length hs) ≡ plan.Fuse s → twins hs ≡ false → (k : ℕ) (cells : List ℕ) (r : Built) → length cells ≡ k
-      → Constructed s hs (take k (drop 48 out)) cells r → Made hs out (putMid 48 k out cells) r
+  pub made-some : (s : Sizes) → planOf (length hs) ≡ plan.Fuse s → twins hs ≡ false → (c : ℕ) → c ≡ cellsFor (length hs) → (cells : List ℕ) (r : Built)
+      → length cells ≡ length (take (48 + c - 48) (drop 48 out)) → 48 + cellsFor (length hs) ≤ length out
+      → Constructed s hs (take (48 + c - 48) (drop 48 out)) cells r → Made hs out (putMid 48 (48 + c - 48) out cells) r
   unfolding byPlan
-  made-some s e f k cells r l C = record {
+  made-some s e f c ec cells r l room C = record {
     answer =
         C .answer ∙ sym (ap (λ (b : Bool). cond b Positive (byAttempt s (attemptOf s hs))) f)
         ∙ ap (λ (p : Plan). byPlan p hs) (sym e);
-    output = made-part r hs out cells k l (C .cells);
+    output = made-part r hs out cells (48 + c - 48) (l ∙ mid-len 48 (48 + c) out (omega arith)) (C .cells);
   }
+
+-- the attempts work on the part of the output where the cells go
+pub make-spaced : (n : ℕ) (s : Sizes) → planOf n ≡ plan.Fuse s → (wide narrow c : ℕ) (out : List ℕ) → c ≡ cellsFor n → Roomy n wide narrow (length out)
+    → n < 2 ^ 64 → Spaced s n wide narrow (length (take (48 + c - 48) (drop 48 out)))
+make-spaced n s e wide narrow c out ec R l =
+    let m : length (take (48 + c - 48) (drop 48 out)) ≡ 48 + c - 48 = mid-len 48 (48 + c) out (omega (arith, R .out-room)) in
+    let k = plan-cells n s e in
+    record {
+      usable = plan-usable n s e l;
+      whole = omega arith;
+      few = omega (arith, R .few);
+      wide-room = omega (arith, R .wide-room);
+      narrow-room = omega (arith, R .narrow-room);
+    }
 
 -- ---- a header put in front of cells that stand in their place
 
-front-splice : (xs p q : List ℕ) → length p ≡ 48 → 48 + length q ≤ length xs → splice (splice xs 48 q) 0 p ≡ splice xs 0 (p ++ q)
+in-front : (xs ys : List ℕ) → splice xs 0 ys ≡ ys ++ drop (length ys) xs
 unfolding splice
+in-front xs ys = ap (λ (k : ℕ). ys ++ drop k xs) {x = 0 + length ys} {y = length ys} (omega arith)
+
+front-splice : (xs p q : List ℕ) → length p ≡ 48 → 48 + length q ≤ length xs → splice (splice xs 48 q) 0 p ≡ splice xs 0 (p ++ q)
 front-splice xs p q l r =
-    ap (λ (k : ℕ). p ++ drop k (splice xs 48 q)) l ∙ ap (λ (t : List ℕ). p ++ t) (drop-splice-in xs 48 q r)
+    in-front (splice xs 48 q) p ∙ ap (λ (k : ℕ). p ++ drop k (splice xs 48 q)) l ∙ ap (λ (t : List ℕ). p ++ t) (drop-splice-in xs 48 q r)
     ∙ sym (append-assoc p q (drop (48 + length q) xs))
     ∙ ap (λ (k : ℕ). (p ++ q) ++ drop k xs) {x = 48 + length q} {y = length (p ++ q)} (omega (arith, length-append p q))
+    ∙ sym (in-front xs (p ++ q))
 
 -- what is built over a plan: Positive, or the plan's sizes with a seed
 pub data OfPlan (n : ℕ) : Built → Type 0 where
@@ -332,14 +361,13 @@ module _ (hs out mid : List ℕ) (b : Built) (M : Made hs out mid b) where
     lay-cells : cellsIn (s .segment) (s .count) ≡ cellsFor (length hs)
     lay-cells = sizes-of (length hs) _ (of-plan (length hs) hs) s (sym (M .answer) ∙ e) l .1
 
-    pub lay-fuse : 48 + cellsFor (length hs) ≤ length out → (after : List ℕ) → after ≡ splice mid 0 (headerOf s) → Laid hs out after b
+    pub lay-fuse : 48 + cellsFor (length hs) ≤ length out → (after : List ℕ) → after ≡ splice mid 0 (headerOf s) → Laid hs out after (Fuse s)
     lay-fuse room after p = record {
-      answer = M .answer;
+      answer = sym e ∙ M .answer;
       output =
           p ∙ ap (λ (t : List ℕ). splice t 0 (headerOf s)) (M .output ∙ ap (λ (x : Built). madeBy x hs out) e)
           ∙ front-splice out (headerOf s) (cellsOf (s .segment) (s .count) (s .seed) hs) (header-length s)
-          (omega (arith, cells-length (s .segment) (s .count) (s .seed) hs, lay-cells))
-          ∙ ap (λ (x : Built). outBy x hs out) (sym e);
+          (omega (arith, cells-length (s .segment) (s .count) (s .seed) hs, lay-cells));
     }
 
 -- ---- the call

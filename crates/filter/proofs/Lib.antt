@@ -4,5 +4,4 @@ pub mod WriteLaws
 pub mod ExactLaws
 pub mod UniqueLaws
 pub mod Figures
-pub mod TwinLaws
 pub mod BuildingLaws

@@ -1,9 +1,9 @@
 -- Building a filter, after document 01, "Arithmetic and construction" and "Calls".
-use mathlib.Core.Bool.{Bool, true, false, cond, _||_}
+use mathlib.Core.Bool.{Bool, false, cond}
 use mathlib.Core.List.{List, [], _∷_, _++_}
 use mathlib.Core.Path.{_≡_}
 use Prim.Native.Nat.{ℕ, zero, suc, _+_, _*_, _≤_, _<_, _^_}
-use lib.Dec.{eqb, ltb}
+use lib.Dec.{ltb}
 use lib.ListN.{length, replicate}
 use Rattle.laws.specs.Refusals.{Cause, cause, firstOf}
 use Rattle.laws.specs.Count.{count}
@@ -17,6 +17,7 @@ use Rattle.sizing.specs.declared.Plan.{Plan}
 use Rattle.sizing.specs.declared.Plan.the-variants as plan
 use Rattle.sizing.specs.Sizing.{planOf}
 use Rattle.sort.specs.Sort.{sorted}
+use Rattle.sort.specs.Twins.{twins}
 use Rattle.peel.specs.Peel.{succeeds, cellsOf}
 use Rattle.filter.specs.declared.Built.{Built}
 use Rattle.filter.specs.declared.Built.the-variants.{Positive, Fuse, Refused}
@@ -49,12 +50,6 @@ pub record Roomy (n wide narrow out : ℕ) : Type 0 where
   pub out-room : 48 + cellsFor n ≤ out
 
 -- ---- what is built of the sorted hashes
-
--- two neighbours are equal
-unfoldable pub twins : List ℕ → Bool
-twins [] = false
-twins (x ∷ []) = false
-twins (x ∷ y ∷ ys) = eqb x y || twins (y ∷ ys)
 
 -- whether attempt i, with seed mix(i), peels every hash
 abbrev pub peelsBy : Sizes → List ℕ → ℕ → Bool

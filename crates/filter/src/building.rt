@@ -3,7 +3,7 @@ ghost use mathlib.Core.Bool.{false};
 ghost use mathlib.Core.Path.{_≡_};
 ghost use lib.ListN.{length};
 ghost use Rattle.fuse.specs.Asking.{Fits};
-ghost use Rattle.filter.specs.Building.{cellsFor, buildRefusal, Roomy, twins, Spaced, Searched, Constructed, Missing, Made, Laid};
+ghost use Rattle.filter.specs.Building.{cellsFor, buildRefusal, Roomy, Spaced, Searched, Constructed, Missing, Made, Laid};
 use super::Built;
 use fuse::Sizes;
 use fuse::header;
@@ -39,20 +39,6 @@ pub fn refusal(n: usize, wide: usize, narrow: usize, out: usize) -> u8
         return Built::SHORT;
     }
     0
-}
-
-// Whether two neighbours are equal.
-fn has_twins(hashes: &[u64]) -> bool
-    ensures { λ r. ⌜ r ≡ twins (now (hashes .entry)) ⌝ }
-{
-    let mut i = 1;
-    while i < hashes.len() {
-        if hashes[i - 1] == hashes[i] {
-            return true;
-        }
-        i += 1;
-    }
-    false
 }
 
 // The first of the attempts that peels every hash, 0 if none does; it fills the cells.
@@ -129,7 +115,7 @@ fn make(hashes: &[u64], wide: &mut [u64], narrow: &mut [u32], out: &mut [u8]) ->
     requires { ⌜ Roomy (length (now hashes)) (length (now wide)) (length (now narrow)) (length (now out)) ⌝ }
     ensures { λ r. ⌜ Made (now (hashes .entry)) (now (out .entry)) (now (out .exit)) r ⌝ }
 {
-    if has_twins(hashes) {
+    if sort::has_twins(hashes) {
         return Built::Positive;
     }
     let end = Sizes::HEADER + cells_for(hashes.len());

@@ -1,45 +1,46 @@
+-- The cells for n hashes, by the plan. Assumes nothing.
+use mathlib.Core.Path.{_≡_, sym, _∙_}
+use Prim.Native.Nat.{_<_, _^_}
+use Rattle.fuse.specs.Positions.{Usable, cellsIn}
+use native.Mathlib.Omega.{arith}
+use Rattle.filter.proofs.BuildingLaws.{cells-none, plan-cells, plan-usable}
 use borrow.Author.Needs.{needs}
 use Rattle.filter.proofs.building.cells_for.Statement.{statement}
 use Rattle.filter.proofs.building.cells_for.Tie as tie
-use Rattle.filter.proofs.building.cells_for.Reads as reads
-use Rattle.filter.proofs.building.cells_for.Lts as lts
-use Rattle.sizing.proofs.Plan.of.Reads as of-reads
 
--- src/building.rt:17:9
 of-requires : tie.Need-of-requires
-of-requires c κs = ?
+of-requires c κs = search needs
 
--- src/building.rt:19:27
 enum-told : tie.Need-enum-told
-enum-told c = ?
+enum-told c = search needs
 
--- src/building.rt:20:20
 enum-known-plan : tie.Need-enum-known-plan
-enum-known-plan c = ?
+enum-known-plan c = search needs
 
--- src/building.rt:20:27
 cast-result : tie.Need-cast-result
-cast-result c = ?
+cast-result c = search needs
 
--- src/building.rt:20:27
 add-result : tie.Need-add-result
-add-result c = ?
+add-result c = search needs
 
--- src/building.rt:20:51
 cast-result-2 : tie.Need-cast-result-2
-cast-result-2 c = ?
+cast-result-2 c = search needs
 
--- src/building.rt:20:26
 mul-result : tie.Need-mul-result
-mul-result c = ?
+mul-result c =
+    let n = c .before .before .before .before .before .before .args .n in
+    let p = c .before .before .before .plan .given in
+    let u : Usable (p .0 .0 .segment) (p .0 .0 .count) = plan-usable n (p .0 .0) (sym (c .before .before .before .before .before .of .ensures) ∙ p .1) (omega arith) in
+    let small : cellsIn (p .0 .0 .segment) (p .0 .0 .count) < 2 ^ 32 = u .small in
+    omega (arith, small)
 
--- src/building.rt:14:1
 returns : tie.Need-returns
-returns c = ?
+returns c = cells-none (c .before .before .before .args .n) (sym (c .before .before .of .ensures) ∙ c .enum-told .given .1)
 
--- src/building.rt:14:1
 returns-2 : tie.Need-returns-2
-returns-2 c = ?
+returns-2 c =
+    let p = c .before .before .before .plan .given in
+    plan-cells (c .before .before .before .before .before .before .args .n) (p .0 .0) (sym (c .before .before .before .before .before .of .ensures) ∙ p .1)
 
 pub cells-for-spec : {M : Type 1} → statement M
 cells-for-spec =

@@ -1,49 +1,50 @@
+-- The length checks, in their order. Assumes nothing.
+use mathlib.Core.Path.{_≡_}
+use Prim.Native.Nat.{_<_, _^_}
+use Rattle.filter.specs.Building.{cellsFor}
+use native.Mathlib.Omega.{arith}
+use Rattle.filter.proofs.BuildingLaws.{cells-few, refuse-many, refuse-wide, refuse-narrow, refuse-out, refuse-none}
 use borrow.Author.Needs.{needs}
 use Rattle.filter.proofs.building.refusal.Statement.{statement}
 use Rattle.filter.proofs.building.refusal.Tie as tie
-use Rattle.filter.proofs.building.refusal.Reads as reads
-use Rattle.filter.proofs.building.refusal.Lts as lts
-use Rattle.filter.proofs.building.cells_for.Reads as cells-for-reads
 
--- src/building.rt:29:9
 returns : tie.Need-returns
-returns c = ?
+returns c = let a = c .before .args in refuse-many (a .n) (a .wide) (a .narrow) (a .out) (c .if1 .taken)
 
--- src/building.rt:31:9
 cells-for-requires : tie.Need-cells-for-requires
-cells-for-requires c κs = ?
+cells-for-requires c κs = search needs
 
--- src/building.rt:32:15
 add-if2 : tie.Need-add-if2
-add-if2 c = ?
+add-if2 c = let small : cellsFor (c .before .before .args .n) < 2 ^ 32 = cells-few (c .before .before .args .n) (omega arith) in omega (arith, c .cells-for .ensures)
 
--- src/building.rt:33:9
 returns-2 : tie.Need-returns-2
-returns-2 c = ?
+returns-2 c =
+    let a = c .before .before .before .args in
+    refuse-wide (a .n) (a .wide) (a .narrow) (a .out) (c .before .cells-for .result) (c .before .cells-for .ensures) (c .before .before .if1 .left) (c .if2 .taken)
 
--- src/building.rt:35:17
 mul-if3 : tie.Need-mul-if3
-mul-if3 c = ?
+mul-if3 c = let small : cellsFor (c .before .before .before .args .n) < 2 ^ 32 = cells-few (c .before .before .before .args .n) (omega arith) in omega (arith, c .before .cells-for .ensures)
 
--- src/building.rt:35:17
 add-if3 : tie.Need-add-if3
-add-if3 c = ?
+add-if3 c = let small : cellsFor (c .before .before .before .args .n) < 2 ^ 32 = cells-few (c .before .before .before .args .n) (omega arith) in omega (arith, c .before .cells-for .ensures)
 
--- src/building.rt:36:9
 returns-3 : tie.Need-returns-3
-returns-3 c = ?
+returns-3 c =
+    let a = c .before .before .before .before .args in
+    refuse-narrow (a .n) (a .wide) (a .narrow) (a .out) (c .before .before .cells-for .result) (c .before .before .cells-for .ensures) (c .before .before .before .if1 .left) (c .before .if2 .left) (c .if3 .taken)
 
--- src/building.rt:38:14
 add-if4 : tie.Need-add-if4
-add-if4 c = ?
+add-if4 c = let small : cellsFor (c .before .before .before .before .args .n) < 2 ^ 32 = cells-few (c .before .before .before .before .args .n) (omega arith) in omega (arith, c .before .before .cells-for .ensures)
 
--- src/building.rt:39:9
 returns-4 : tie.Need-returns-4
-returns-4 c = ?
+returns-4 c =
+    let a = c .before .before .before .before .before .args in
+    refuse-out (a .n) (a .wide) (a .narrow) (a .out) (c .before .before .before .cells-for .result) (c .before .before .before .cells-for .ensures) (c .before .before .before .before .if1 .left) (c .before .before .if2 .left) (c .before .if3 .left) (c .if4 .taken)
 
--- src/building.rt:25:1
 returns-5 : tie.Need-returns-5
-returns-5 c = ?
+returns-5 c =
+    let a = c .before .before .before .before .before .args in
+    refuse-none (a .n) (a .wide) (a .narrow) (a .out) (c .before .before .before .cells-for .result) (c .before .before .before .cells-for .ensures) (c .before .before .before .before .if1 .left) (c .before .before .if2 .left) (c .before .if3 .left) (c .if4 .left)
 
 pub refusal-spec : {M : Type 1} → statement M
 refusal-spec =
