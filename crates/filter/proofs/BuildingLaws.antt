@@ -1,16 +1,18 @@
 -- Laws of building: the checks, the plan, the attempts, the closing check and the bytes, as the code goes through them. Assumes nothing.
 use mathlib.Core.Path.{_≡_, refl, sym, ap, _∙_, subst}
 use mathlib.Core.Bool.{Bool, true, false, cond}
+use mathlib.Core.Logic.{_⊎_, inl, inr}
 use mathlib.Core.List.{List, [], _∷_, _++_, append-assoc}
 use Prim.Native.Nat.{ℕ, zero, suc, _+_, _-_, _*_, _^_, _≤_, _<_}
 use native.Mathlib.Omega.{arith}
 use lib.Dec.{ltb, eqb}
 use lib.ListN.{length, getD, take, drop, replicate, length-append}
 use lib.Seq.{drop-drop}
-use borrow.Author.Tests.{lt-ltb, le-ltb, ltb-false, eqb-false}
+use borrow.Author.Tests.{lt-ltb, le-ltb, ltb-false, eqb-true, eqb-false}
 use borrow.Rule.Slice.PartMut.{putMid, put-same, mid-len}
 use Rattle.laws.specs.Refusals.{None, none-here, none-more, Numbered, numbered-none, numbered-more, none-only}
 use Rattle.laws.specs.Count.{count}
+use Rattle.laws.specs.Cases.{eq-or-ne}
 use Rattle.laws.proofs.CountLaws.{by-test, count-cons, count-here}
 use Rattle.words.specs.Field.{splice}
 use Rattle.words.proofs.Laws.{drop-splice-in}
@@ -39,6 +41,15 @@ use Rattle.filter.specs.Building.{cellsFor, buildCauses, buildRefusal, R
 split-plan : (t : Bool) (x s : Sizes) → cond t plan.Positive (plan.Fuse x) ≡ plan.Fuse s → (t ≡ false) × (x ≡ s)
 split-plan true x s e = (cc, cc)
 split-plan false x s e = (refl, cc)
+
+split-none : (t : Bool) (x : Sizes) → cond t plan.Positive (plan.Fuse x) ≡ plan.Positive → t ≡ true
+split-none true x e = refl
+split-none false x e = cc
+
+-- only for no hashes is the plan Positive
+pub plan-zero : (n : ℕ) → planOf n ≡ plan.Positive → n ≡ 0
+unfolding planOf
+plan-zero n e = eqb-true n 0 (split-none (eqb n 0) (sizesOf n) e)
 
 pub cells-none : (n : ℕ) → planOf n ≡ plan.Positive → 0 ≡ cellsFor n
 unfolding cellsFor
@@ -161,23 +172,57 @@ module _ (s : Sizes) (hs : List ℕ) where
     searching-miss l t = (
       omega arith,
       ap (firstFrom s hs (100 - (i + 1))) {x = i + 1 + 1} {y = suc (i + 1)} (omega arith) ∙ sym (first-no (100 - (i + 1)) (i + 1) t)
-      ∙ ap (λ (k : ℕ). firstFrom s hs k (i + 1)) (sym (one-less l)) ∙ S .1,
+          ∙ ap (λ (k : ℕ). firstFrom s hs k (i + 1)) (sym (one-less l)) ∙ S .1,
     )
 
     pub searching-end : 100 ≤ i → 0 ≡ attemptOf s hs
     searching-end l = sym (ap (λ (k : ℕ). firstFrom s hs k (i + 1)) {x = 100 - i} {y = 0} (omega arith) ∙ first-none (i + 1)) ∙ S .1
 
-  -- the first that peels every hash does
-  first-peels : (k i a : ℕ) → firstFrom s hs k i ≡ a → (a ≡ 0 → ⊥) → peelsBy s hs a ≡ true
-  first-peels zero i a e n = absurd (n (sym e ∙ first-none i))
-  first-peels (suc k) i a e n =
+  -- none of the k attempts from i on peels every hash
+  abbrev pub NonePeels : (k i : ℕ) → Type 0
+  NonePeels k i = (j : ℕ) → i ≤ j → j < i + k → peelsBy s hs j ≡ false
+
+  none-first : (k i : ℕ) → NonePeels k i → firstFrom s hs k i ≡ 0
+  none-first zero i n = first-none i
+  none-first (suc k) i n = first-no k i (n i (omega arith) (omega arith)) ∙ none-first k (suc i) (λ j l m. n j (omega arith) (omega arith))
+
+  -- what the first attempt is, if it is one of those from i on
+  pub record FirstPeel (k i a : ℕ) : Type 0 where
+    pub from : i ≤ a
+    pub below : a < i + k
+    pub peels : peelsBy s hs a ≡ true
+    pub before : NonePeels (a - i) i
+
+  later-first : (k i a : ℕ) → peelsBy s hs i ≡ false → FirstPeel k (suc i) a → FirstPeel (suc k) i a
+  later-first k i a t F = record {
+    from = omega (arith, F .from);
+    below = omega (arith, F .below);
+    peels = F .peels;
+    before = λ j l m.
+        elim (eq-or-ne i j) [ inl e ↦ subst (λ (x : ℕ). peelsBy s hs x ≡ false) e t | inr d ↦ F .before j (omega arith) (omega (arith, F .from)) ];
+  }
+
+  first-is : (k i : ℕ) → 1 ≤ i → ((firstFrom s hs k i ≡ 0) × NonePeels k i) ⊎ FirstPeel k i (firstFrom s hs k i)
+  first-is zero i l = inl (first-none i, λ j m n. absurd (omega arith))
+  first-is (suc k) i l =
       by-test (peelsBy s hs i)
-      (λ t. ap (peelsBy s hs) (sym e ∙ first-yes k i t) ∙ t)
-      (λ t. first-peels k (suc i) a (sym (first-no k i t) ∙ e) n)
+      (λ t. inr (subst (FirstPeel (suc k) i) (sym (first-yes k i t)) (record { from = omega arith; below = omega arith; peels = t; before = λ j m n. absurd (omega arith) })))
+      (λ t. elim (first-is k (suc i) (omega arith)) [
+        | inl z ↦ inl (first-no k i t ∙ z .0, λ j m n. elim (eq-or-ne i j) [ inl e ↦ subst (λ (x : ℕ). peelsBy s hs x ≡ false) e t | inr d ↦ z .1 j (omega arith) (omega arith) ])
+        | inr f ↦ inr (subst (FirstPeel (suc k) i) (sym (first-no k i t)) (later-first k i _ t f))
+      ])
+
+  -- the attempt found is 0 exactly where none of the 100 peels every hash, and else the first that does
+  pub attempt-is : ((attemptOf s hs ≡ 0) × NonePeels 100 1) ⊎ FirstPeel 100 1 (attemptOf s hs)
+  unfolding attemptOf
+  attempt-is = first-is 100 1 (omega arith)
+
+  pub attempt-none : NonePeels 100 1 → attemptOf s hs ≡ 0
+  unfolding attemptOf
+  attempt-none n = none-first 100 1 n
 
   pub attempt-peels : (a : ℕ) → a ≡ attemptOf s hs → (a ≡ 0 → ⊥) → peelsBy s hs a ≡ true
-  unfolding attemptOf
-  attempt-peels a e n = first-peels 100 1 a (sym e) n
+  attempt-peels a e n = elim attempt-is [ inl z ↦ absurd (n (e ∙ z .0)) | inr f ↦ ap (peelsBy s hs) e ∙ f .peels ]
 
 -- attempts have the seeds of their numbers
 pub by-some : (s : Sizes) (a : ℕ) → (a ≡ 0 → ⊥) → byAttempt s a ≡ Fuse (seeded s (mixOf a))
@@ -297,7 +342,7 @@ make-spaced n s e wide narrow c out ec R l =
 
 -- ---- a header put in front of cells that stand in their place
 
-in-front : (xs ys : List ℕ) → splice xs 0 ys ≡ ys ++ drop (length ys) xs
+pub in-front : (xs ys : List ℕ) → splice xs 0 ys ≡ ys ++ drop (length ys) xs
 unfolding splice
 in-front xs ys = ap (λ (k : ℕ). ys ++ drop k xs) {x = 0 + length ys} {y = length ys} (omega arith)
 

@@ -5,3 +5,4 @@ pub mod ExactLaws
 pub mod UniqueLaws
 pub mod Figures
 pub mod BuildingLaws
+pub mod BuiltLaws

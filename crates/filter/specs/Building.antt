@@ -1,5 +1,5 @@
 -- Building a filter, after document 01, "Arithmetic and construction" and "Calls".
-use mathlib.Core.Bool.{Bool, false, cond}
+use mathlib.Core.Bool.{Bool, true, false, cond}
 use mathlib.Core.List.{List, [], _∷_, _++_}
 use mathlib.Core.Path.{_≡_}
 use Prim.Native.Nat.{ℕ, zero, suc, _+_, _*_, _≤_, _<_, _^_}
@@ -15,10 +15,12 @@ use Rattle.fuse.specs.Asking.{containsOf}
 use Rattle.fuse.specs.Layout.{positiveBytes, headerOf}
 use Rattle.sizing.specs.declared.Plan.{Plan}
 use Rattle.sizing.specs.declared.Plan.the-variants as plan
-use Rattle.sizing.specs.Sizing.{planOf}
+use Rattle.sizing.specs.Sizing.{sizesOf, planOf}
 use Rattle.sort.specs.Sort.{sorted}
 use Rattle.sort.specs.Twins.{twins}
 use Rattle.peel.specs.Peel.{succeeds, cellsOf}
+use Rattle.filter.specs.declared.SstFilter.{SstFilter}
+use Rattle.filter.specs.declared.SstFilter.the-variants as read
 use Rattle.filter.specs.declared.Built.{Built}
 use Rattle.filter.specs.declared.Built.the-variants.{Positive, Fuse, Refused}
 
@@ -141,6 +143,29 @@ pub record BuildPost (hashes wide narrow out : List ℕ) (r : Built) (hashes' wi
   pub wide-after : wide' ≡ spaceBy (buildOf hashes (length wide) (length narrow) (length out)) wide
   pub narrow-after : narrow' ≡ spaceBy (buildOf hashes (length wide) (length narrow) (length out)) narrow
   pub out-after : out' ≡ outBy (buildOf hashes (length wide) (length narrow) (length out)) (sorted hashes) out
+
+-- ---- what is promised of an answer
+
+-- why there is no filter: no hashes, two that are equal, or none of the attempts 1 to 100 peels every hash
+pub data WhyPositive (hashes : List ℕ) : Type 0 where
+  no-hashes : length hashes ≡ 0 → WhyPositive hashes
+  equal-hashes : (v : ℕ) → 2 ≤ count v hashes → WhyPositive hashes
+  no-attempt : ((i : ℕ) → 1 ≤ i → i ≤ 100 → peelsBy (sizesOf (length hashes)) (sorted hashes) i ≡ false) → WhyPositive hashes
+
+-- whose filter it is: all hashes are its keys, its sizes are those for so many, and its seed is that of the first attempt that peels every hash
+pub record FilterOf (hashes : List ℕ) (s : Sizes) : Type 0 where
+  pub attempt : ℕ
+  pub some-hash : 1 ≤ length hashes
+  pub numbered : (1 ≤ attempt) × (attempt ≤ 100)
+  pub sizes : s ≡ seeded (sizesOf (length hashes)) (mixOf attempt)
+  pub peels : peelsBy (sizesOf (length hashes)) (sorted hashes) attempt ≡ true
+  pub first : (i : ℕ) → 1 ≤ i → i < attempt → peelsBy (sizesOf (length hashes)) (sorted hashes) i ≡ false
+
+-- how the written bytes are read
+abbrev pub asRead : Built → SstFilter
+asRead Positive = read.Positive
+asRead (Fuse s) = read.Fuse s
+asRead (Refused r) = read.Refused
 
 -- ---- between the steps
 

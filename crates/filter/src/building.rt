@@ -42,13 +42,7 @@ pub fn refusal(n: usize, wide: usize, narrow: usize, out: usize) -> u8
 }
 
 // The first of the attempts that peels every hash, 0 if none does; it fills the cells.
-fn search(
-    hashes: &[u64],
-    wide: &mut [u64],
-    narrow: &mut [u32],
-    cells: &mut [u8],
-    s: Sizes,
-) -> u64
+fn search(hashes: &[u64], wide: &mut [u64], narrow: &mut [u32], cells: &mut [u8], s: Sizes) -> u64
     requires { ⌜ Spaced s (length (now hashes)) (length (now wide)) (length (now narrow)) (length (now cells)) ⌝ }
     ensures { λ r. ⌜ Searched s (now (hashes .entry)) (now (cells .entry)) (now (cells .exit)) r ⌝ }
 {

@@ -8,7 +8,9 @@ ghost use Rattle.filter.specs.Reading.{readOf, frontOf, acceptable};
 ghost use Rattle.filter.specs.Asking.{askCellsOf, askOf};
 ghost use Rattle.filter.specs.Writing.{WritePost};
 ghost use Rattle.filter.specs.Building.{BuildPost};
+
 mod building;
+
 use fuse::Sizes;
 use fuse::header;
 use words::part;
@@ -48,7 +50,9 @@ impl Built {
     pub const ATTEMPTS: u64 = 100;
     // The refusals: too many hashes, workspace too short, output too short.
     pub const MANY: u8 = 12;
+
     pub const SPACE: u8 = 9;
+
     pub const SHORT: u8 = 6;
 }
 
