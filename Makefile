@@ -13,11 +13,12 @@ QUIET = mkdir -p target && quiet() { "$$@" > target/quiet.log 2>&1 || { cat targ
 .PHONY: test run compare bench splits
 test:
 	@awk '{ sub(/#.*/, ""); i = index($$0, ":") } i && $$1 != "mixing:" && (substr($$0, i + 1) " ") ~ /[ \t]mixrule[ \t]/ { print "crates.txt: only mixing may list mixrule: " $$0; bad = 1 } END { exit bad }' crates.txt
+	@sh scripts/test-listing-input
 	@rt fmt --check && rt ci
 
 run:
-	@$(QUIET) rt check mixing_vectors
-	@target/bin/mixing_vectors < crates/mixing_vectors/stdin
+	@$(QUIET) rt check listing
+	@target/bin/listing < crates/listing/stdin
 
 compare:
 	@$(QUIET) rt staticlib kiban_c

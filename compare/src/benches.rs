@@ -1,4 +1,5 @@
 //! The timings: one file a call, one line of `ALL` each. Medians of rounds in which ours and the Rust's runs take turns.
+mod filter;
 mod hash;
 mod mix;
 
@@ -28,7 +29,7 @@ const fn entry<B: Bench>() -> Entry {
     Entry { name: B::NAME, run: run::<B> }
 }
 
-pub const ALL: &[Entry] = &[entry::<mix::Mix>(), entry::<hash::Hash>()];
+pub const ALL: &[Entry] = &[entry::<mix::Mix>(), entry::<hash::Hash>(), entry::<filter::Ask>()];
 
 /// How long one timed row of runs should take, in ns: short, so that few rows are interrupted.
 const ROW: f64 = 1e5;

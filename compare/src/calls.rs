@@ -1,9 +1,12 @@
 //! The calls that are compared: one file each, one line of `ALL` each.
+mod drawn;
+mod filter_read;
 mod hash;
 mod mix;
 
 use crate::table::Line;
 use oracle::Rng;
+use std::collections::BTreeMap;
 use std::fmt::Debug;
 
 /// One call: cases from a seeded generator, run on both sides.
@@ -20,6 +23,10 @@ pub trait Call {
     fn draw(r: &mut Rng) -> Self::Case;
     fn ours(case: &Self::Case) -> Self::Answer;
     fn theirs(case: &Self::Case) -> Self::Answer;
+    /// The number that an answer holds, to tell how often each was met.
+    fn number(_: &Self::Answer) -> Option<u64> {
+        None
+    }
 }
 
 pub struct Entry {
@@ -31,7 +38,7 @@ const fn entry<C: Call>() -> Entry {
 }
 
 /// Every call, in the order of the boundary's table.
-pub const ALL: &[Entry] = &[entry::<mix::Mix>(), entry::<hash::Hash>()];
+pub const ALL: &[Entry] = &[entry::<mix::Mix>(), entry::<hash::Hash>(), entry::<filter_read::FilterRead>()];
 
 /// A call's own generator, so that a new call moves no other's cases.
 fn generator(seed: u64, name: &str) -> Rng {
@@ -42,9 +49,17 @@ fn run<C: Call>(seed: u64, cases: u64) -> Line {
     Line::timed(C::NAME, |line| {
         let mut r = generator(seed, C::NAME);
         let fixed = C::fixed().into_iter();
+        let mut numbers = BTreeMap::new();
         for case in fixed.chain((0..cases.div_ceil(C::ONE_IN)).map(|_| C::draw(&mut r))) {
             let (ours, theirs) = (C::ours(&case), C::theirs(&case));
+            if let Some(n) = C::number(&theirs) {
+                *numbers.entry(n).or_insert(0u64) += 1;
+            }
             line.count(ours == theirs, || format!("{case:?}: ours {ours:?}, the Rust {theirs:?}"));
+        }
+        if !numbers.is_empty() {
+            let met: Vec<String> = numbers.iter().map(|(n, cases)| format!("{n}: {cases}")).collect();
+            line.notes.push(format!("answers {}", met.join(", ")));
         }
     })
 }

@@ -1,5 +1,5 @@
 //! The oracle's commands: see README.md.
-use crate::{check, hunt, lines, num, tables, vectors};
+use crate::{check, hunt, lines, num, replay, tables, vectors};
 
 pub fn run(args: &[String]) {
     let a = |i: usize| {
@@ -20,7 +20,7 @@ pub fn run(args: &[String]) {
         "sizing-at-rows" => tables::at_rows(num(a(1))),
         "hunt" => hunt::run(a(1), &args[2..]),
         "vectors" => vectors::write(num(a(1)), a(2), num(a(3))),
-        "replay" => vectors::replay(a(1)),
+        "replay" => replay::replay(a(1)),
         other => {
             eprintln!("unknown command of the oracle: {other}");
             std::process::exit(2)

@@ -1,4 +1,4 @@
-// Inputs found by `oracle hunt`.
+//! Inputs found by `oracle hunt`: hashes that no attempt peels, or only the last; keys (big-endian bytes) whose bucket has no pilot, or a late one.
 pub const EXHAUST_30: [u64; 30] = [
     0x02fa72eca5300d6a,
     0x081d1497ab235f7e,
@@ -106,4 +106,36 @@ pub const LAST_14: [u64; 14] = [
     0xc1f43ce074043553,
     0xdb701aff10484f14,
     0xee21428266559827,
+];
+/// Keys whose first attempt finds no pilot.
+pub const NO_PILOT_15: [u64; 15] = [
+    0x0de400732553c3e7,
+    0x4c77178f2cb12cf4,
+    0x4db0a2b995e1bf76,
+    0x78032ca4a8cc2b78,
+    0x87e6cea62059e0d1,
+    0x9da5155bfbc25530,
+    0x9e3e49afe6d27e4f,
+    0xa72730b2d5e86111,
+    0xb215787729ad294c,
+    0xe4d1c47428a2abf3,
+    0xee7f8ddb1ba6e630,
+    0xf16faa5f014909e8,
+    0xf17ee408a8082b6f,
+    0xf4580aa5608834ee,
+    0xfee6e7c73caa7c5e,
+];
+pub const NO_PILOT_12: [u64; 12] = [
+    0x019bb45b440a201e,
+    0x07995f616ac1034a,
+    0x0b232d5bc3da79a2,
+    0x3421ab15d16a4fba,
+    0x352735163ad4f56f,
+    0x6a56c86e66f353be,
+    0x8061e513a58a187f,
+    0xc48e577e59d66793,
+    0xcf7d7427ff33b27e,
+    0xde1a8ebad70e0642,
+    0xe41b01de03b6ae42,
+    0xff5ee37ebeabd82d,
 ];

@@ -10,9 +10,11 @@ mod xxh3;
 
 pub mod check;
 pub mod command;
+mod found;
 pub mod hunt;
 pub mod lines;
 pub mod paper;
+pub mod replay;
 mod sizing_cut;
 pub mod tables;
 pub mod vectors;

@@ -64,12 +64,15 @@ pub fn rows(max: u64) -> Vec<(u64, u64, u64)> {
     rows
 }
 /// The first key count of each segment, by document 01's whole-number rule.
+pub fn leasts() -> Vec<u64> {
+    (0..=18).map(|k| if k == 0 { 1 } else { least(k) }).collect()
+}
 pub fn segments_text() -> String {
     let mut t = String::from(
         "# exponent k, segment 2^k, least key count (document 01's whole-number rule; key counts 1 and 2 share m = 2)\n",
     );
-    for k in 0..=18 {
-        writeln!(t, "{k} {} {}", 1u64 << k, if k == 0 { 1 } else { least(k) }).unwrap();
+    for (k, least) in leasts().iter().enumerate() {
+        writeln!(t, "{k} {} {least}", 1u64 << k).unwrap();
     }
     t
 }

@@ -1,8 +1,10 @@
-//! Test vectors: `make` makes them, `replay` reads them back with the paper's reading. Format: VECTORS.md.
+//! Test vectors: `make` makes them. Format: VECTORS.md.
 use crate::{
     Rng,
     check::{damage, example, random_list},
-    data, hunt,
+    data,
+    found::*,
+    hunt,
     lines::{Rec, get_both, rust_builder, rust_finish_arena},
     paper, rf, rp,
 };
@@ -47,22 +49,22 @@ impl P {
         self.u64(s.used).u64(s.keys).u64(s.head)
     }
 }
-const BUFFER: u8 = 0x0f;
-const ADD: u8 = 0x10;
-const SET: u8 = 0x11;
-const LOOK: u8 = 0x12;
-const POKE: u8 = 0x13;
-const FINISH: u8 = 0x18;
-const FINISH_GEN: u8 = 0x19;
-const BODY: u8 = 0x20;
-const VALIDATE: u8 = 0x21;
-const GET: u8 = 0x22;
-const LIST: u8 = 0x23;
-const LIST_RAW: u8 = 0x24;
-const FBUILD: u8 = 0x30;
-const FBUILD_GEN: u8 = 0x31;
-const FBASE: u8 = 0x32;
-const FASK: u8 = 0x33;
+pub const BUFFER: u8 = 0x0f;
+pub const ADD: u8 = 0x10;
+pub const SET: u8 = 0x11;
+pub const LOOK: u8 = 0x12;
+pub const POKE: u8 = 0x13;
+pub const FINISH: u8 = 0x18;
+pub const FINISH_GEN: u8 = 0x19;
+pub const BODY: u8 = 0x20;
+pub const VALIDATE: u8 = 0x21;
+pub const GET: u8 = 0x22;
+pub const LIST: u8 = 0x23;
+pub const LIST_RAW: u8 = 0x24;
+pub const FBUILD: u8 = 0x30;
+pub const FBUILD_GEN: u8 = 0x31;
+pub const FBASE: u8 = 0x32;
+pub const FASK: u8 = 0x33;
 
 impl Out {
     fn put(&mut self, op: u8, result: u32, p: P) {
@@ -94,7 +96,7 @@ fn patches(base: &[u8], other: &[u8]) -> Option<P> {
 fn gen_keys(seed: u64, n: u64) -> Vec<[u8; 8]> {
     (0..n).map(|i| (i << 40 | paper::mix(seed.wrapping_add(i)) % (1 << 40)).to_be_bytes()).collect()
 }
-fn gen_arena(seed: u64, n: u64) -> Vec<u8> {
+pub fn gen_arena(seed: u64, n: u64) -> Vec<u8> {
     let mut v = Vec::new();
     for (i, k) in gen_keys(seed, n).iter().enumerate() {
         v.extend(8u32.to_le_bytes());
@@ -107,7 +109,7 @@ fn gen_arena(seed: u64, n: u64) -> Vec<u8> {
     }
     v
 }
-fn gen_hashes(seed: u64, n: u64) -> Vec<u64> {
+pub fn gen_hashes(seed: u64, n: u64) -> Vec<u64> {
     (0..n).map(|i| paper::mix(seed.wrapping_add(i.wrapping_mul(paper::STEP)))).collect()
 }
 
@@ -341,9 +343,21 @@ pub fn write(seed: u64, path: &str, scale: u64) {
 }
 fn cases(seed: u64, scale: u64) -> Out {
     let mut out = Out::default();
-    let o = &mut out;
-    let mut r = Rng(seed);
-    // ---- leaves
+    let (o, r) = (&mut out, &mut Rng(seed));
+    leaves(o, r, scale);
+    builder(o);
+    lists(o, r, scale);
+    example_body(o, r);
+    listing_shapes(o);
+    other_bodies(o);
+    finishes(o, r, scale);
+    let filters = filter_builds(o, r, scale);
+    filter_asks(o, r, scale, &filters);
+    filter_shapes(o);
+    out
+}
+/// Ops 01 to 05.
+fn leaves(o: &mut Out, r: &mut Rng, scale: u64) {
     for h in [0, 1, u64::MAX, 1 << 63, 1 << 32, paper::STEP]
         .into_iter()
         .chain((0..6 * scale).map(|_| r.next()).collect::<Vec<_>>())
@@ -400,101 +414,103 @@ fn cases(seed: u64, scale: u64) -> Out {
         let (s, g, c) = paper::sizing(n);
         o.put(5, 0, P::default().u32(n).u32(s).u32(g).u32(c));
     }
-    // ---- builder
-    {
-        let z = paper::State::default();
-        let mut b = Builder::new(o, 400, 0xEE);
-        b.add(z, false, 1, b"", 0, 5); // 4: continued, nothing added
-        b.set(z, 0, 1);
-        b.set(z, u64::MAX - 7, 1); // 7: nothing added
-        b.add(z, true, 2, b"k", 1, 5); // 3
-        b.add(z, true, 2, b"k", 16_777_217, 5); // 2 before 3
-        b.add(z, true, 1, b"k", 16_777_217, 5); // 2
-        b.add(z, true, 1, &vec![7; 1_048_577], 0, 5); // 2
-        b.add(z, true, 1, &vec![7; 1_048_576], 0, 5); // 6
-        b.add(z, true, 1, b"k", u32::MAX as u64, 5); // 2
-        let s = b.add(z, true, 1, b"", 16_777_216, 5); // taken: empty key, greatest value length
-        b.set(s, s.used - 8, u64::MAX);
-        b.set(s, s.used - 8, 3);
-        b.set(s, s.used - 7, 3);
-        b.set(s, s.used - 9, 3);
-        b.set(s, 0, 3);
-        b.set(s, s.used, 3);
-        b.add(s, true, 1, b"", 0, 4); // 4: equal to the last
-        b.add(s, false, 1, b"a", 0, 4); // 4: unequal
-        b.add(s, false, 1, b"", 0, 5); // 4: sequence equal
-        b.add(s, false, 1, b"", 0, 6); // 4: above
-        let s2 = b.add(s, false, 2, b"", 0, 4);
-        let s3 = b.add(s2, false, 1, b"", 0, 0);
-        b.add(s3, false, 1, b"", 0, 0); // 4: nothing below 0
-        b.add(s, false, 2, b"", 0, 4); // 1: an older state, the version count moved on
-        let t = b.add(s3, true, 2, &[0], 0, u64::MAX);
-        b.add(t, true, 1, b"", 0, 1); // 4
-        b.add(t, true, 1, &[0], 0, 1); // 4
-        let t = b.add(t, true, 1, &[0, 0], 0, 1);
-        b.add(t, true, 1, &[0, 0], 0, 0);
-        b.add(t, true, 1, &[0], 0, 0);
-        let t = b.add(t, true, 1, &[0, 1], 0, 1);
-        b.add(t, true, 1, &[0, 0, 255], 0, 1); // 4
-        let t = b.add(t, true, 1, &[255; 9], 9, 1);
-        for bad in [
-            paper::State { used: t.used + 1, ..t },
-            paper::State { used: t.used - 1, ..t },
-            paper::State { keys: 0, ..t },
-            paper::State { keys: 65_537, ..t },
-            paper::State { head: t.head + 1, ..t },
-            paper::State { head: t.used, ..t },
-            paper::State { head: u64::MAX, ..t },
-            paper::State { head: t.used - 7, ..t },
-            paper::State { used: u64::MAX, ..t },
-            paper::State { used: 401, keys: 1, head: 0 },
-            paper::State { used: 0, keys: 1, head: 0 },
-            paper::State { used: 0, keys: 0, head: 1 },
-            paper::State { used: 1, keys: 0, head: 0 },
-            paper::State { used: 400, ..t },
-        ] {
-            b.add(bad, true, 1, &[255; 10], 0, 0);
-            b.set(bad, bad.used.wrapping_sub(8), 9);
-        }
-        let q = paper::State { keys: 65_536, ..t };
-        b.add(q, true, 1, &[255; 10], 0, 0); // 5
-        b.add(q, true, 1, &[255; 8], 0, 0); // 4 before 5
-        b.add(q, true, 1, &[255; 300], 0, 0); // 5 before 6
-        let q2 = b.add(q, false, 1, &[255; 9], 0, 0); // a version more is taken
-        b.add(paper::State { keys: 65_535, ..q2 }, true, 1, &[255; 11], 0, 0);
-        b.look();
-        // exact room
-        let mut b = Builder::new(o, 29 + 5 + 21, 0x11);
-        let s = b.add(z, true, 1, b"hello", 1, 9);
-        let s = b.add(s, false, 1, b"hello", 1, 8);
-        b.add(s, false, 1, b"hello", 1, 7); // 6
-        b.add(s, true, 1, b"hellp", 1, 7); // 6
-        b.look();
-        b.poke(4, 0);
-        b.add(s, false, 1, b"hello", 1, 7); // 1: no versions
-        b.poke(4, 2);
-        b.poke(0, 6);
-        b.add(s, false, 1, b"hello", 1, 7);
-        b.poke(0, 5);
-        b.set(s, s.used - 8, 0x0102030405060708);
-        b.look();
-        let mut b = Builder::new(o, 28, 0);
-        b.add(z, true, 1, b"", 0, 0);
-        b.look(); // 6
-        let mut b = Builder::new(o, 29, 0);
-        let s = b.add(z, true, 1, b"", 0, 0);
-        b.add(s, false, 1, b"", 0, 0);
-        b.look(); // taken, then 4 before 6
-        let mut b = Builder::new(o, 0, 0);
-        b.add(z, true, 1, b"", 0, 0);
-        let mut b = Builder::new(o, 1_048_576 + 29, 0x33);
-        let s = b.add(z, true, 1, &vec![7; 1_048_576], 3, 3);
-        b.set(s, s.used - 8, 5);
-        b.add(s, true, 1, &vec![7; 1_048_576], 3, 3);
-        b.look_part(0, 40);
-        b.look_part(1_048_576 + 8, 1_048_576 + 29);
+}
+/// Ops 0f to 13: each refusal of add and set offset, and the edges of the room.
+fn builder(o: &mut Out) {
+    let z = paper::State::default();
+    let mut b = Builder::new(o, 400, 0xEE);
+    b.add(z, false, 1, b"", 0, 5); // 4: continued, nothing added
+    b.set(z, 0, 1);
+    b.set(z, u64::MAX - 7, 1); // 7: nothing added
+    b.add(z, true, 2, b"k", 1, 5); // 3
+    b.add(z, true, 2, b"k", 16_777_217, 5); // 2 before 3
+    b.add(z, true, 1, b"k", 16_777_217, 5); // 2
+    b.add(z, true, 1, &vec![7; 1_048_577], 0, 5); // 2
+    b.add(z, true, 1, &vec![7; 1_048_576], 0, 5); // 6
+    b.add(z, true, 1, b"k", u32::MAX as u64, 5); // 2
+    let s = b.add(z, true, 1, b"", 16_777_216, 5); // taken: empty key, greatest value length
+    b.set(s, s.used - 8, u64::MAX);
+    b.set(s, s.used - 8, 3);
+    b.set(s, s.used - 7, 3);
+    b.set(s, s.used - 9, 3);
+    b.set(s, 0, 3);
+    b.set(s, s.used, 3);
+    b.add(s, true, 1, b"", 0, 4); // 4: equal to the last
+    b.add(s, false, 1, b"a", 0, 4); // 4: unequal
+    b.add(s, false, 1, b"", 0, 5); // 4: sequence equal
+    b.add(s, false, 1, b"", 0, 6); // 4: above
+    let s2 = b.add(s, false, 2, b"", 0, 4);
+    let s3 = b.add(s2, false, 1, b"", 0, 0);
+    b.add(s3, false, 1, b"", 0, 0); // 4: nothing below 0
+    b.add(s, false, 2, b"", 0, 4); // 1: an older state, the version count moved on
+    let t = b.add(s3, true, 2, &[0], 0, u64::MAX);
+    b.add(t, true, 1, b"", 0, 1); // 4
+    b.add(t, true, 1, &[0], 0, 1); // 4
+    let t = b.add(t, true, 1, &[0, 0], 0, 1);
+    b.add(t, true, 1, &[0, 0], 0, 0);
+    b.add(t, true, 1, &[0], 0, 0);
+    let t = b.add(t, true, 1, &[0, 1], 0, 1);
+    b.add(t, true, 1, &[0, 0, 255], 0, 1); // 4
+    let t = b.add(t, true, 1, &[255; 9], 9, 1);
+    for bad in [
+        paper::State { used: t.used + 1, ..t },
+        paper::State { used: t.used - 1, ..t },
+        paper::State { keys: 0, ..t },
+        paper::State { keys: 65_537, ..t },
+        paper::State { head: t.head + 1, ..t },
+        paper::State { head: t.used, ..t },
+        paper::State { head: u64::MAX, ..t },
+        paper::State { head: t.used - 7, ..t },
+        paper::State { used: u64::MAX, ..t },
+        paper::State { used: 401, keys: 1, head: 0 },
+        paper::State { used: 0, keys: 1, head: 0 },
+        paper::State { used: 0, keys: 0, head: 1 },
+        paper::State { used: 1, keys: 0, head: 0 },
+        paper::State { used: 400, ..t },
+    ] {
+        b.add(bad, true, 1, &[255; 10], 0, 0);
+        b.set(bad, bad.used.wrapping_sub(8), 9);
     }
-    // ---- lists: builder, finish, validate, get, listing on the result
+    let q = paper::State { keys: 65_536, ..t };
+    b.add(q, true, 1, &[255; 10], 0, 0); // 5
+    b.add(q, true, 1, &[255; 8], 0, 0); // 4 before 5
+    b.add(q, true, 1, &[255; 300], 0, 0); // 5 before 6
+    let q2 = b.add(q, false, 1, &[255; 9], 0, 0); // a version more is taken
+    b.add(paper::State { keys: 65_535, ..q2 }, true, 1, &[255; 11], 0, 0);
+    b.look();
+    // exact room
+    let mut b = Builder::new(o, 29 + 5 + 21, 0x11);
+    let s = b.add(z, true, 1, b"hello", 1, 9);
+    let s = b.add(s, false, 1, b"hello", 1, 8);
+    b.add(s, false, 1, b"hello", 1, 7); // 6
+    b.add(s, true, 1, b"hellp", 1, 7); // 6
+    b.look();
+    b.poke(4, 0);
+    b.add(s, false, 1, b"hello", 1, 7); // 1: no versions
+    b.poke(4, 2);
+    b.poke(0, 6);
+    b.add(s, false, 1, b"hello", 1, 7);
+    b.poke(0, 5);
+    b.set(s, s.used - 8, 0x0102030405060708);
+    b.look();
+    let mut b = Builder::new(o, 28, 0);
+    b.add(z, true, 1, b"", 0, 0);
+    b.look(); // 6
+    let mut b = Builder::new(o, 29, 0);
+    let s = b.add(z, true, 1, b"", 0, 0);
+    b.add(s, false, 1, b"", 0, 0);
+    b.look(); // taken, then 4 before 6
+    let mut b = Builder::new(o, 0, 0);
+    b.add(z, true, 1, b"", 0, 0);
+    let mut b = Builder::new(o, 1_048_576 + 29, 0x33);
+    let s = b.add(z, true, 1, &vec![7; 1_048_576], 3, 3);
+    b.set(s, s.used - 8, 5);
+    b.add(s, true, 1, &vec![7; 1_048_576], 3, 3);
+    b.look_part(0, 40);
+    b.look_part(1_048_576 + 8, 1_048_576 + 29);
+}
+/// Lists: builder, finish, validate, get and listing on the result, whole and damaged.
+fn lists(o: &mut Out, r: &mut Rng, scale: u64) {
     let mut lists: Vec<(Vec<Rec>, u64)> = vec![(example(), 116)];
     for (i, n) in [1usize, 1, 2, 3, 4, 5, 6, 7, 9, 12, 25]
         .iter()
@@ -503,7 +519,7 @@ fn cases(seed: u64, scale: u64) -> Out {
     {
         for _ in 0..scale.min(6) {
             let dl = [0, 8, 100, 1000][r.below(4) as usize];
-            lists.push((random_list(&mut r, *n, dl, i as u64), dl));
+            lists.push((random_list(r, *n, dl, i as u64), dl));
         }
     }
     for (recs, dl) in &lists {
@@ -550,7 +566,7 @@ fn cases(seed: u64, scale: u64) -> Out {
             list(o, &body, &body, limit, *dl);
         }
         for _ in 0..(25 * scale).min(200) {
-            let bad = damage(&mut r, &body);
+            let bad = damage(r, &body);
             let d = if r.below(4) == 0 { r.below(dl + 1) } else { *dl };
             validate(o, &body, &bad, d);
             let k = if r.below(5) == 0 {
@@ -570,7 +586,9 @@ fn cases(seed: u64, scale: u64) -> Out {
             }
         }
     }
-    // ---- the example body, every place
+}
+/// The example body, damaged at every place.
+fn example_body(o: &mut Out, r: &mut Rng) {
     let ex = rust_finish_arena(&arena(&example())).unwrap();
     base(o, &ex);
     for i in 0..=ex.len() {
@@ -757,7 +775,9 @@ fn cases(seed: u64, scale: u64) -> Out {
         let t = paper::listing(&raw);
         o.put(LIST_RAW, 1, P::default().bytes(&raw).bytes(t.as_bytes()));
     }
-    // ---- listing shapes: an older tombstone within the limit under a newer put (a `tomb` line in document 01), the empty key
+}
+/// Listing: an older tombstone within the limit under a newer put (a `tomb` line in document 01), the empty key.
+fn listing_shapes(o: &mut Out) {
     let recs: Vec<Rec> =
         ["1:1:-:9:1:0", "0:2:-:5:0:0", "0:1:-:2:3:4", "1:2:00:7:0:1", "1:1:00ff:3:0:7", "0:2:00ff:1:0:2"]
             .iter()
@@ -775,7 +795,9 @@ fn cases(seed: u64, scale: u64) -> Out {
         get(o, &body, &body, 7, k, None);
         get(o, &body, &body, 0, k, None);
     }
-    // ---- accepted bodies that finish never makes: other seeds, large pilots
+}
+/// Accepted bodies that finish never makes: other seeds, large pilots.
+fn other_bodies(o: &mut Out) {
     for (sd, pilot) in
         [(0u64, 0u32), (1, 5), (77, 1 << 23), (77, (1 << 31) - 1), (u64::MAX, 1 << 31), (5, (1 << 23) - 1)]
     {
@@ -792,7 +814,9 @@ fn cases(seed: u64, scale: u64) -> Out {
         get(o, &b, &b, 3, b"kez", None);
         get(o, &b, &b, 2, b"key", None);
     }
-    // ---- finish: every attempt, both causes, and 10
+}
+/// Finish: every attempt, both causes, and 10.
+fn finishes(o: &mut Out, r: &mut Rng, scale: u64) {
     let simple = |keys: &[Vec<u8>]| -> Vec<u8> {
         arena(
             &keys
@@ -803,12 +827,12 @@ fn cases(seed: u64, scale: u64) -> Out {
         )
     };
     for k in 0..=8 {
-        let v = hunt::keys_for_attempt(k, &mut r);
+        let v = hunt::keys_for_attempt(k, r);
         finish_fit(o, &simple(&v), v.len());
     }
     {
         // accepted, though finish answers 10 on its arena (single-member buckets without the direct mark, too)
-        let v = hunt::keys_for_attempt(8, &mut r);
+        let v = hunt::keys_for_attempt(8, r);
         let a = simple(&v);
         let b = body_with_seed(&a, 12345);
         assert!(rust_finish_arena(&a) == Err(10) && rp::validate_number(&b, 0) == 0);
@@ -833,7 +857,7 @@ fn cases(seed: u64, scale: u64) -> Out {
         finish_fit(o, &simple(&v), 2);
     }
     for (n, k) in [(20usize, 1u64), (20, 2), (18, 3)] {
-        let v = hunt::crowded(n, k, &mut r);
+        let v = hunt::crowded(n, k, r);
         finish_fit(o, &simple(&v), v.len());
     }
     let v: Vec<Vec<u8>> = NO_PILOT_15.iter().map(|x| x.to_be_bytes().to_vec()).collect();
@@ -856,7 +880,9 @@ fn cases(seed: u64, scale: u64) -> Out {
         };
         o.put(FINISH_GEN, num, P::default().u64(s).u32(n).u8(num as u8).u64(len).u64(digest).u64(sd));
     }
-    // ---- filters
+}
+/// Filter builds; the filters that were built, with their hashes.
+fn filter_builds(o: &mut Out, r: &mut Rng, scale: u64) -> Vec<(Vec<u8>, Vec<u64>)> {
     let mut filters = Vec::new();
     for n in (0..16).chain([30, 42, 43, 122, 123, 200]) {
         for _ in 0..scale.min(if n > 20 { 2 } else { 8 }) {
@@ -896,7 +922,7 @@ fn cases(seed: u64, scale: u64) -> Out {
         filters.push((f, g));
     }
     {
-        let h = hunt::exhaust_pairs(200, &mut r);
+        let h = hunt::exhaust_pairs(200, r);
         if h.len() == 200 {
             let f = fbuild_fit(o, &h);
             assert!(f.len() == 48);
@@ -945,6 +971,10 @@ fn cases(seed: u64, scale: u64) -> Out {
         };
         o.put(FBUILD_GEN, num, P::default().u64(s).u32(n).u8(num as u8).u64(len).u64(digest));
     }
+    filters
+}
+/// Filters read and asked, whole and damaged.
+fn filter_asks(o: &mut Out, r: &mut Rng, scale: u64, filters: &[(Vec<u8>, Vec<u64>)]) {
     for (i, (f, h)) in filters.iter().enumerate() {
         if i % 3 != 0 && scale == 1 && i > 30 {
             continue;
@@ -992,7 +1022,9 @@ fn cases(seed: u64, scale: u64) -> Out {
             fask(o, f, &b, &few);
         }
     }
-    // shapes that only reading can meet: segment 1 to 4 with count 0 to 2, segment 3, 262,144 and 524,288 with too few bytes, sums that wrap 32 bits
+}
+/// Shapes that only reading can meet: segment 1 to 4 with count 0 to 2, segment 3, 262,144 and 524,288 with too few bytes, sums that wrap 32 bits.
+fn filter_shapes(o: &mut Out) {
     let p = paper::positive();
     o.put(FBASE, 0, P::default().bytes(&p));
     fask(o, &p, &p, &[0, 1, u64::MAX]);
@@ -1039,249 +1071,4 @@ fn cases(seed: u64, scale: u64) -> Out {
             fask(o, &p, &b, &[0]);
         }
     }
-    out
-}
-pub const NO_PILOT_15: [u64; 15] = [
-    0x0de400732553c3e7,
-    0x4c77178f2cb12cf4,
-    0x4db0a2b995e1bf76,
-    0x78032ca4a8cc2b78,
-    0x87e6cea62059e0d1,
-    0x9da5155bfbc25530,
-    0x9e3e49afe6d27e4f,
-    0xa72730b2d5e86111,
-    0xb215787729ad294c,
-    0xe4d1c47428a2abf3,
-    0xee7f8ddb1ba6e630,
-    0xf16faa5f014909e8,
-    0xf17ee408a8082b6f,
-    0xf4580aa5608834ee,
-    0xfee6e7c73caa7c5e,
-];
-pub const NO_PILOT_12: [u64; 12] = [
-    0x019bb45b440a201e,
-    0x07995f616ac1034a,
-    0x0b232d5bc3da79a2,
-    0x3421ab15d16a4fba,
-    0x352735163ad4f56f,
-    0x6a56c86e66f353be,
-    0x8061e513a58a187f,
-    0xc48e577e59d66793,
-    0xcf7d7427ff33b27e,
-    0xde1a8ebad70e0642,
-    0xe41b01de03b6ae42,
-    0xff5ee37ebeabd82d,
-];
-include!("found.rs");
-
-/// Reads a file back and answers each case with the paper's reading.
-pub fn replay(path: &str) {
-    let f = std::fs::read(path).unwrap();
-    assert!(&f[..8] == b"WASHVEC1");
-    struct R<'a>(&'a [u8]);
-    impl<'a> R<'a> {
-        fn take(&mut self, n: usize) -> &'a [u8] {
-            let (a, b) = self.0.split_at(n);
-            self.0 = b;
-            a
-        }
-        fn u8(&mut self) -> u8 {
-            self.take(1)[0]
-        }
-        fn u16(&mut self) -> u64 {
-            u16::from_le_bytes(self.take(2).try_into().unwrap()) as u64
-        }
-        fn u32(&mut self) -> u64 {
-            u32::from_le_bytes(self.take(4).try_into().unwrap()) as u64
-        }
-        fn u64(&mut self) -> u64 {
-            u64::from_le_bytes(self.take(8).try_into().unwrap())
-        }
-        fn bytes(&mut self) -> &'a [u8] {
-            let n = self.u32() as usize;
-            self.take(n)
-        }
-        fn state(&mut self) -> paper::State {
-            paper::State { used: self.u64(), keys: self.u64(), head: self.u64() }
-        }
-        fn patched(&mut self, base: &[u8]) -> Vec<u8> {
-            let n = self.u32() as usize;
-            let mut b = base.to_vec();
-            b.resize(n, 0xA5);
-            for _ in 0..self.u8() {
-                let at = self.u32() as usize;
-                b[at] = self.u8();
-            }
-            b
-        }
-    }
-    let mut r = R(&f[8..]);
-    let count = r.u32();
-    let (mut buf, mut body, mut filter) = (vec![], vec![], vec![]);
-    for case in 0..count {
-        let op = r.u8();
-        let mut p = R(r.bytes());
-        let ok = match op {
-            1 => paper::mix(p.u64()) == p.u64(),
-            2 => {
-                let s = p.u64();
-                let k = p.bytes();
-                let h = paper::hash(k, s);
-                h == p.u64() && paper::fingerprint(h) == p.u16()
-            }
-            3 => {
-                let (h, q, n, b) = (p.u64(), p.u32(), p.u32(), p.u32());
-                h % b == p.u32() && paper::position(h, q, n) == p.u32()
-            }
-            4 => {
-                let (h, s, c) = (p.u64(), p.u32(), p.u32());
-                paper::positions(h, s, c).iter().all(|&x| x == p.u32())
-            }
-            5 => {
-                let n = p.u32();
-                paper::sizing(n) == (p.u32(), p.u32(), p.u32())
-            }
-            BUFFER => {
-                let n = p.u32() as usize;
-                buf = vec![p.u8(); n];
-                true
-            }
-            ADD => {
-                let s = p.state();
-                let new = p.u8() == 1;
-                let kind = p.u8();
-                let key = if p.u8() == 1 {
-                    let v = p.u8();
-                    vec![v; p.u32() as usize]
-                } else {
-                    p.bytes().to_vec()
-                };
-                let (vl, seq) = (p.u32(), p.u64());
-                match paper::add(s, &mut buf, new, kind, &key, vl, seq) {
-                    Ok((t, pl)) => p.u8() == 0 && p.state() == t && p.u64() == pl,
-                    Err(e) => {
-                        let b = p.u8() as u32 == e;
-                        p.take(32);
-                        b
-                    }
-                }
-            }
-            SET => {
-                let s = p.state();
-                let (pl, of) = (p.u64(), p.u64());
-                paper::set_offset(s, &mut buf, pl, of).err().unwrap_or(0) == p.u8() as u32
-            }
-            LOOK => {
-                let a = p.u32() as usize;
-                let b = p.bytes();
-                &buf[a..a + b.len()] == b
-            }
-            POKE => {
-                let a = p.u32() as usize;
-                buf[a] = p.u8();
-                true
-            }
-            FINISH => {
-                let a = p.bytes();
-                let mut out = vec![0; p.u32() as usize];
-                let (x, y) = (p.u32() as usize, p.u32() as usize);
-                match paper::finish(a, &mut out, x, y) {
-                    Ok(l) => p.u8() == 0 && p.bytes() == &out[..l],
-                    Err(e) => p.u8() as u32 == e && p.bytes().is_empty(),
-                }
-            }
-            FINISH_GEN => {
-                let s = p.u64();
-                let n = p.u32();
-                let a = gen_arena(s, n);
-                let mut out = vec![0; a.len() + 32 + 17 * n as usize];
-                match paper::finish(&a, &mut out, 2 * n as usize, 8 * n as usize + 8) {
-                    Ok(l) => {
-                        p.u8() == 0
-                            && p.u64() == l as u64
-                            && p.u64() == paper::hash(&out[..l], 0)
-                            && p.u64() == u64::from_le_bytes(out[8..16].try_into().unwrap())
-                    }
-                    Err(e) => {
-                        let b = p.u8() as u32 == e;
-                        p.take(24);
-                        b
-                    }
-                }
-            }
-            BODY => {
-                body = p.bytes().to_vec();
-                true
-            }
-            VALIDATE => {
-                let b = p.patched(&body);
-                paper::validate(&b, p.u64()) == p.u8() as u32
-            }
-            GET => {
-                let b = p.patched(&body);
-                let dl = p.u64();
-                let k = p.bytes();
-                let has = p.u8() == 1;
-                let l = p.u64();
-                let want = (p.u8(), p.u8(), p.u64(), p.u64(), p.u64());
-                want == match paper::get(&b, dl, k, if has { Some(l) } else { None }) {
-                    paper::Answer::Nothing => (0, 0, 0, 0, 0),
-                    paper::Answer::Damage => (14, 0, 0, 0, 0),
-                    paper::Answer::Found { kind, seq, offset, length } => (1, kind, seq, offset, length),
-                }
-            }
-            LIST => {
-                let b = p.patched(&body);
-                let mut i = p.u64().to_le_bytes().to_vec();
-                i.extend(p.u64().to_le_bytes());
-                i.extend(b);
-                paper::listing(&i).as_bytes() == p.bytes()
-            }
-            LIST_RAW => {
-                let i = p.bytes();
-                paper::listing(i).as_bytes() == p.bytes()
-            }
-            FBUILD => {
-                let n = p.u32();
-                let mut h: Vec<u64> = (0..n).map(|_| p.u64()).collect();
-                let (x, y, z) = (p.u32() as usize, p.u32() as usize, p.u32() as usize);
-                match paper::filter_build(&mut h, x, y, z) {
-                    Ok(f) => p.u8() == 0 && p.bytes() == f,
-                    Err(e) => p.u8() as u32 == e && p.bytes().is_empty(),
-                }
-            }
-            FBUILD_GEN => {
-                let s = p.u64();
-                let n = p.u32();
-                let mut h = gen_hashes(s, n);
-                let c = 2 * n as usize + 100;
-                match paper::filter_build(&mut h, 48 + c, c + n as usize, 2 * c + n as usize) {
-                    Ok(f) => p.u8() == 0 && p.u64() == f.len() as u64 && p.u64() == paper::hash(&f, 0),
-                    Err(e) => {
-                        let b = p.u8() as u32 == e;
-                        p.take(16);
-                        b
-                    }
-                }
-            }
-            FBASE => {
-                filter = p.bytes().to_vec();
-                true
-            }
-            FASK => {
-                let b = p.patched(&filter);
-                let m = p.u32();
-                let h: Vec<u64> = (0..m).map(|_| p.u64()).collect();
-                (paper::filter_read(&b).is_none()) == (p.u8() == 15)
-                    && h.iter().all(|&x| paper::filter_ask(&b, x) == p.u8() as u32)
-            }
-            _ => false,
-        };
-        assert!(p.0.is_empty(), "case {case} op {op:#x} has bytes left");
-        if !ok {
-            println!("case {case} (op {op:#x}) differs");
-        }
-    }
-    assert!(r.0.is_empty());
-    println!("{path}: {count} cases replayed with the paper's reading");
 }

@@ -1,1 +1,1 @@
-// Definitions and lemmas that two or more crates share, in specs/: no code.
+// Definitions and lemmas that two or more crates share, in specs/ and proofs/: no code.

@@ -152,6 +152,24 @@ queued-pass c top p xs e =
       behind = λ v l. refl;
     }
 
+-- a cell written behind the queue stays if its degree is 1
+pub queued-stays : (c top p r : ℕ) (xs : List ℕ) → top < c → c + c ≤ length xs → p < c → getD (set xs (c + top) p) p 0 ≡ 1 → r ≡ top + 1
+    → Queued c (keep (eqb (getD xs p 0) 1) p (stack c top xs)) r xs (set xs (c + top) p)
+queued-stays c top p r xs h l k e er = rw er (queued-push c top p xs h l (sym (getD-set-other xs (c + top) p p 0 (λ z. omega arith)) ∙ e))
+
+-- and is written over if not
+pub queued-goes : (c top p r : ℕ) (xs : List ℕ) → top < c → c + c ≤ length xs → p < c → (getD (set xs (c + top) p) p 0 ≡ 1 → ⊥) → r ≡ top
+    → Queued c (keep (eqb (getD xs p 0) 1) p (stack c top xs)) r xs (set xs (c + top) p)
+queued-goes c top p r xs h l k e er =
+    rw er
+    (record {
+      waiting =
+          stack-same c top xs _ (λ i m. getD-set-other xs (c + top) (c + i) p 0 (λ z. omega arith))
+          ∙ ap (λ (b : Bool). keep b p (stack c top xs)) (sym (ne-eqb _ _ (λ z. e (getD-set-other xs (c + top) p p 0 (λ y. omega arith) ∙ z))));
+      degrees = λ v m. getD-set-other xs (c + top) v p 0 (λ z. omega arith);
+      behind = λ v m. getD-set-other xs (c + top) v p 0 (λ z. omega arith);
+    })
+
 -- ---- cells noted
 
 pub noted-cons : (d : List ℕ) (p : ℕ) (ps q : List ℕ) → noted d (p ∷ ps) q ≡ noted d ps (keep (eqb (getD d p 0) 1) p q)
@@ -219,12 +237,6 @@ noting-end c d₀ whole rest top d e N =
       degrees = N .degrees;
       behind = N .behind;
     }
-
--- noting rising numbers makes a queue of at most as many
-pub noted-rising : (d : List ℕ) (n p : ℕ) (q : List ℕ) → length (noted d (rising p n) q) ≤ n + length q
-noted-rising d zero p q = rw (rising-none, noted-nil) (omega arith)
-noted-rising d (suc n) p q =
-    rw (rising-cons, noted-cons) (omega (arith, noted-rising d n (suc p) (keep (eqb (getD d p 0) 1) p q), length-keep (eqb (getD d p 0) 1) p q))
 
 -- ---- a hash added, a hash taken away
 

@@ -64,7 +64,7 @@ fn note(narrow: &mut [u32], c: usize, top: usize, p: usize) -> usize
     top
 }
 
-// The cells of degree 1 go on the empty queue, in rising order.
+// The cells of degree 1 go on the empty queue, in rising order: each is written, and stays if its degree is 1.
 fn queue_ones(narrow: &mut [u32], c: usize) -> usize
     requires { ⌜ (c ≤ 2 ^ 32) × (c + c ≤ length (now narrow)) ⌝ }
     ensures { λ r. ⌜ Queued c (noted (now (narrow .entry)) (rising 0 c) []) r (now (narrow .entry)) (now (narrow .exit)) ⌝ }
@@ -72,7 +72,10 @@ fn queue_ones(narrow: &mut [u32], c: usize) -> usize
     let mut top = 0;
     let mut p = 0;
     while p < c {
-        top = note(narrow, c, top, p);
+        narrow[c + top] = p as u32;
+        if narrow[p] == 1 {
+            top += 1;
+        }
         p += 1;
     }
     top

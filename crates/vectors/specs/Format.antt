@@ -1,11 +1,10 @@
 -- The vector file: `WASHVEC1`, u32 number of cases, then the cases, each a u8 op and its payload as `bytes` (u32 length, then the bytes).
 use Prim.Native.Nat.{ℕ, _+_, _-_, _%_, _^_, min}
-use mathlib.Core.Bool.{Bool, true, false, cond}
+use mathlib.Core.Bool.{Bool, cond}
 use mathlib.Core.List.{List}
 use lib.Dec.{eqb, ltb, leb}
 use lib.ListN.{length, getD, take, drop}
 use Rattle.words.specs.Field.{le}
-use Rattle.vectors.specs.declared.Cursor.{Cursor}
 use Rattle.vectors.specs.declared.File.{File}
 use Rattle.vectors.specs.declared.File.the-variants.{Cases, Other}
 use Rattle.vectors.specs.declared.Next.{Next}
@@ -28,7 +27,7 @@ bytesEnd raw at = endOf raw (endOf raw at 4) (fieldOf 4 raw at)
 abbrev pub fieldBytes : List ℕ → ℕ → List ℕ
 fieldBytes raw at = take (bytesEnd raw at - endOf raw at 4) (drop (endOf raw at 4) raw)
 
--- a file with its magic: the number of cases, and the first of them behind it
+-- a file with its magic (`WASHVEC1` as a number): the number of cases, and the first of them behind it
 abbrev pub openOf : List ℕ → File
 openOf file =
     cond (ltb (length file) 12) Other

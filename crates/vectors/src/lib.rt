@@ -6,6 +6,8 @@ ghost use Prim.Native.Nat.{_-_};
 ghost use lib.ListN.{length};
 ghost use Rattle.vectors.specs.Format.{fieldOf, endOf, bytesEnd, fieldBytes, openOf, nextOf, countedOf};
 
+pub mod patch;
+
 // How many bytes stand from `at` on.
 fn room(raw: &[u8], at: usize) -> usize
     ensures { λ r. ⌜ r ≡ length (now (raw .entry)) - at ⌝ }

@@ -1,33 +1,45 @@
 -- The cells of degree 1 are queued in rising order. Assumes nothing.
 use mathlib.Core.List.{[]}
-use Prim.Native.Nat.{_-_, _<_, _≤_}
+use Prim.Native.Nat.{_+_, _-_, _<_, _≤_}
 use native.Mathlib.Omega.{arith}
 use borrow.Author.Needs.{needs}
-use Rattle.peel.proofs.TableLaws.{Noting, noting-ones, noting-turn, noting-room, noting-end, noted-rising, rising-next, rising-over}
+use lib.ListN.{length, length-set}
+use mathlib.Core.Logic.{⊎-elim}
 use Rattle.laws.specs.Count.{rising}
 use Rattle.peel.specs.Table.{noted}
+use Rattle.peel.proofs.TableLaws.{Noting, noting-ones, noting-turn, noting-end, queued-stays, queued-goes, rising-next, rising-over}
 use Rattle.peel.proofs.queue_ones.Statement.{statement}
 use Rattle.peel.proofs.queue_ones.Tie as tie
 
 abbrev Inv-loop : tie.InvT-loop
-Inv-loop narrow₀ c top₀ p₀ narrow top p = (p ≤ c) × Noting c narrow₀ (noted narrow₀ (rising 0 c) []) (rising p (c - p)) top narrow
+Inv-loop narrow₀ c top₀ p₀ narrow top p = (p ≤ c) × (top ≤ p) × Noting c narrow₀ (noted narrow₀ (rising 0 c) []) (rising p (c - p)) top narrow
 
 abbrev μ-loop : tie.MeasureT-loop
 μ-loop narrow₀ c top₀ p₀ narrow top p = c - p
 
 loop-holds : tie.Need-loop-holds Inv-loop μ-loop
-loop-holds c = (omega arith, noting-ones _ _)
+loop-holds c = (omega arith, omega arith, noting-ones _ _)
 
-note-requires : tie.Need-note-requires Inv-loop μ-loop
-note-requires c κs =
-    let l = c .before .before .loop in
-    let g = c .before .before .before .before in
-    let h : l .p < g .args .c = omega arith in (
-      h,
-      g .pre .0,
-      omega (arith, l .inv .1 .size),
-      noting-room _ _ _ _ (l .top) _ (l .p) _ (rising-next (l .p) (g .args .c) h) h (l .inv .1) (omega (arith, noted-rising (g .args .narrow .now) (g .args .c) 0 [])),
-    )
+cast-narrow : tie.Need-cast-narrow Inv-loop μ-loop
+cast-narrow c = omega (arith, c .before .loop .inv .2 .size)
+
+add-narrow : tie.Need-add-narrow Inv-loop μ-loop
+add-narrow c = omega (arith, c .before .loop .inv .2 .size)
+
+mul-narrow : tie.Need-mul-narrow Inv-loop μ-loop
+mul-narrow c = omega (arith, c .before .loop .inv .2 .size)
+
+slice-write-narrow : tie.Need-slice-write-narrow Inv-loop μ-loop
+slice-write-narrow c = omega (arith, c .before .loop .inv .2 .size)
+
+mul-if1 : tie.Need-mul-if1 Inv-loop μ-loop
+mul-if1 c = omega (arith, c .before .loop .inv .2 .size)
+
+slice-read-if1 : tie.Need-slice-read-if1 Inv-loop μ-loop
+slice-read-if1 c = simp length-set (omega (arith, c .before .before .loop .inv .2 .size))
+
+add-top : tie.Need-add-top Inv-loop μ-loop
+add-top c = search needs
 
 add-p : tie.Need-add-p Inv-loop μ-loop
 add-p c = search needs
@@ -37,16 +49,23 @@ loop-less c = search needs
 
 loop-again : tie.Need-loop-again Inv-loop μ-loop
 loop-again c =
-    let l = c .before .before .before .before .before .loop in
-    let g = c .before .before .before .before .before .before .before in
+    let l = c .before .before .before .loop in
+    let g = c .before .before .before .before in
     let h : l .p < g .args .c = omega arith in
-    (omega arith, noting-turn _ _ _ _ (l .top) _ (l .p) _ (rising-next (l .p) (g .args .c) h) h (l .inv .1) _ _ (search needs) (c .before .before .note .ensures))
+    let top : l .top < g .args .c = omega arith in
+    let room : g .args .c + g .args .c ≤ length (l .narrow) = omega (arith, l .inv .2 .size) in
+    ⊎-elim
+    (λ w.
+    (omega arith, omega (arith, w .1), noting-turn _ _ _ _ (l .top) _ (l .p) _ (rising-next (l .p) (g .args .c) h) h (l .inv .2) _ _ (length-set (l .narrow) _ _) (queued-stays _ (l .top) (l .p) _ (l .narrow) top room h (w .0 .taken) (w .1))))
+    (λ w.
+    (omega arith, omega (arith, w .1), noting-turn _ _ _ _ (l .top) _ (l .p) _ (rising-next (l .p) (g .args .c) h) h (l .inv .2) _ _ (length-set (l .narrow) _ _) (queued-goes _ (l .top) (l .p) _ (l .narrow) top room h (w .0 .left) (w .1))))
+    (c .if1 .came)
 
 same-length : tie.Need-same-length Inv-loop μ-loop
-same-length c = search needs
+same-length c = c .before .loop .inv .2 .size
 
 returns : tie.Need-returns Inv-loop μ-loop
-returns c = let l = c .before .loop in noting-end _ _ _ _ _ _ (rising-over (l .p) _ (omega arith)) (l .inv .1)
+returns c = let l = c .before .loop in noting-end _ _ _ _ _ _ (rising-over (l .p) _ (omega arith)) (l .inv .2)
 
 pub queue-ones-spec : {M : Type 1} → statement M
 queue-ones-spec =
@@ -55,7 +74,13 @@ queue-ones-spec =
     Inv-loop
     μ-loop
     loop-holds
-    note-requires
+    cast-narrow
+    add-narrow
+    mul-narrow
+    slice-write-narrow
+    mul-if1
+    slice-read-if1
+    add-top
     add-p
     loop-less
     loop-again

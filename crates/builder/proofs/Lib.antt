@@ -1,0 +1,10 @@
+pub mod StateLaws
+pub mod AddLaws
+pub mod PartLaws
+pub mod ListLaws
+pub mod BodyLaws
+pub mod AnswerLaws
+pub mod HeldLaws
+pub mod StepLaws
+pub mod TakenTheorems
+pub mod Answers

@@ -1,0 +1,49 @@
+-- `key_at` hands back the key of the entry: as many bytes behind the head as its length says. Assumes nothing.
+use native.Mathlib.Omega.{arith}
+use borrow.Author.Needs.{needs}
+use Prim.Native.Nat.{_+_, _-_}
+use mathlib.Core.Path.{_≡_}
+use Rattle.records.specs.Places.{keyLength, keyAt}
+use Rattle.builder.proofs.key_at.Statement.{statement}
+use Rattle.builder.proofs.key_at.Tie as tie
+
+add-from : tie.Need-add-from
+add-from c = search needs
+
+u32-at-requires : tie.Need-u32-at-requires
+u32-at-requires c κs = search needs
+
+cast-to : tie.Need-cast-to
+cast-to c = search needs
+
+add-to : tie.Need-add-to
+add-to c = omega arith
+
+sub-result : tie.Need-sub-result
+sub-result c = omega arith
+
+part-result-start : tie.Need-part-result-start
+part-result-start c = omega arith
+
+part-result-end : tie.Need-part-result-end
+part-result-end c = omega arith
+
+returns : tie.Need-returns
+unfolding keyAt
+returns c =
+    let s = c .before .before .before .args in
+    let e : s .head + 8 + c .before .u32-at .result - (s .head + 8) ≡ keyLength (s .arena .now) (s .head) = omega arith in
+    rw e
+
+pub key-at-spec : {M : Type 1} → statement M
+key-at-spec =
+    tie.close
+    (tie.spec
+    add-from
+    u32-at-requires
+    cast-to
+    add-to
+    sub-result
+    part-result-start
+    part-result-end
+    returns)

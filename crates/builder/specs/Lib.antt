@@ -1,0 +1,4 @@
+pub mod State
+pub mod Add
+pub mod SetOffset
+pub mod Taken

@@ -1,0 +1,54 @@
+-- Taken lists: the tables whose records went in from the empty state, each call on the last answered state and on one buffer that
+-- nothing else writes (document 01, "Calls").
+use Prim.Native.Nat.{ℕ, _^_, _<_}
+use mathlib.Core.Path.{_≡_}
+use mathlib.Core.Bool.{Bool, cond}
+use mathlib.Core.List.{List, [], _∷_, _++_}
+use lib.ListN.{getD}
+use Rattle.records.specs.declared.Kind.{Kind}
+use Rattle.records.specs.declared.Record.{Record}
+use Rattle.records.specs.Model.{Entry}
+use Rattle.builder.specs.declared.PointBuilder.{PointBuilder}
+use Rattle.builder.specs.declared.Added.the-variants as added
+use Rattle.builder.specs.declared.OffsetSet.the-variants.{Set}
+use Rattle.builder.specs.State.{emptyBuilder}
+use Rattle.builder.specs.Add.{recordOf, newEntry, addOf, bufferAfterAdd}
+use Rattle.builder.specs.SetOffset.{setOf, bufferAfterSet}
+
+-- a list with its last element changed
+unfoldable pub onLast : {A : Type 0} → (A → A) → List A → List A
+onLast f [] = []
+onLast f (x ∷ []) = f x ∷ []
+onLast f (x ∷ y ∷ ys) = x ∷ onLast f (y ∷ ys)
+
+-- a record at the end of an entry's versions
+abbrev pub withVersion : Record → Entry → Entry
+withVersion version e = record { key = e .key; versions = e .versions ++ (version ∷ []) }
+
+-- a record with its offset set
+abbrev pub withOffset : ℕ → Record → Record
+withOffset offset r = record { kind = r .kind; sequence = r .sequence; offset = offset; length = r .length }
+
+-- an entry with its last record's offset set
+abbrev pub withLastOffset : ℕ → Entry → Entry
+withLastOffset offset e = record { key = e .key; versions = onLast (withOffset offset) (e .versions) }
+
+-- a table with one record more: a new entry at its end, or a version of the last entry
+unfoldable pub tableAfterAdd : List Entry → List ℕ → Record → Bool → List Entry
+tableAfterAdd table key version newKey = cond newKey (table ++ (newEntry key version ∷ [])) (onLast (withVersion version) table)
+
+-- a table with the last record's offset set
+unfoldable pub tableAfterSet : List Entry → (offset : ℕ) → List Entry
+tableAfterSet table offset = onLast (withLastOffset offset) table
+
+-- the state, the buffer and the table of a list that is taken: the empty builder, a record added with offset 0, the last record's offset set
+pub data Taken : PointBuilder → List ℕ → List Entry → Type 0 where
+  taken-none : {buffer : List ℕ} → Taken emptyBuilder buffer []
+  taken-added : {s next : PointBuilder} {buffer : List ℕ} {table : List Entry} {place : ℕ} (key : List ℕ) (kind : Kind) (size sequence : ℕ) (newKey : Bool)
+      → Taken s buffer table → ((i : ℕ) → getD key i 0 < 256) → sequence < 2 ^ 64
+      → addOf s buffer key kind size sequence newKey ≡ added.Taken next place
+      → Taken next (bufferAfterAdd s buffer key kind size sequence newKey) (tableAfterAdd table key (recordOf kind size sequence 0) newKey)
+  taken-set : {s : PointBuilder} {buffer : List ℕ} {table : List Entry} (place offset : ℕ)
+      → Taken s buffer table → offset < 2 ^ 64
+      → setOf s buffer place ≡ Set
+      → Taken s (bufferAfterSet s buffer place offset) (tableAfterSet table offset)

@@ -1,0 +1,109 @@
+-- An attempt on lent workspace, the attempts one after another, and the slot of a hash, as their parts answer them. Assumes nothing.
+use Prim.Native.Nat.{ℕ, _+_, _-_, _≤_, _<_}
+use mathlib.Core.Path.{_≡_, sym, ap, _∙_, subst}
+use mathlib.Core.Bool.{Bool, true, false, cond}
+use mathlib.Core.List.{List, _++_}
+use mathlib.Core.Option.{none, some, Option·some-injective, Option·none-ne-some}
+use native.Mathlib.Omega.{arith}
+use native.Mathlib.Decide.{ℕ-discrete}
+use native.Mathlib.Numerals.{lt-of-le-of-ne}
+use lib.ListN.{length, getD, take, drop, replicate}
+use lib.Seq.{length-take-le, length-front, take-at}
+use borrow.Author.Tests.{lt-ltb, le-ltb}
+use Rattle.mixing.specs.Mixing.{bucketOf, positionOf, seedOf}
+use Rattle.laws.specs.Steps.{least-at, least-of-none}
+use Rattle.construct.specs.Construct.{bucketsOf, direct, attempts, Placing, attemptOf, constructOf, slotBy, indexOf}
+use Rattle.construct.specs.Keys.{Entries, hashesOf, attemptHashes}
+use Rattle.construct.specs.Layout.{placing, Fresh, Lent, Attempted, answerOf, Built}
+use Rattle.construct.specs.declared.Constructed.the-variants.{Placed, Exhausted}
+use Rattle.construct.proofs.LayingLaws.{zero-front}
+
+-- the workspace lent for the keys of an arena
+module _ (arena h w : List ℕ) (n : ℕ) (L : Lent arena h w n) where
+  pub lent-keys : length (take n h) ≡ n
+  lent-keys = length-take-le n h (omega (arith, L .long))
+
+  pub lent-entries : Entries arena (length (take n h))
+  lent-entries = subst (Entries arena) (sym lent-keys) (L .entries)
+
+  pub lent-kept : (h′ w′ : List ℕ) → length h′ ≡ length h → length w′ ≡ length w → Lent arena h′ w′ n
+  lent-kept h′ w′ eh ew = record { any = L .any; most = L .most; entries = L .entries; long = eh ∙ L .long; room = omega (arith, L .room) }
+
+  module _ (b : ℕ) (eb : b ≡ bucketsOf n) where
+    room-for : b + 1 + b + n ≤ length w
+    room-for = subst (λ (x : ℕ). x + 1 + x + n ≤ length w) (sym eb) (L .room)
+
+    pub lent-words : length (take (b + 1 + b + n) w) ≡ b + 1 + b + n
+    lent-words = length-take-le (b + 1 + b + n) w room-for
+
+    -- the hashes put in front, and the words zeroed
+    pub prepared : (seed : ℕ) (e e′ : List ℕ) → length e ≡ length (take n h) → length e′ ≡ length (take (b + 1 + b + n) w) → e ≡ hashesOf seed arena (length (take n h)) → e′ ≡ replicate (length (take (b + 1 + b + n) w)) 0
+        → Fresh (e ++ drop n h) (e′ ++ drop (b + 1 + b + n) w) n b × (take n (e ++ drop n h) ≡ hashesOf seed arena n)
+    prepared seed e e′ le lw same z = (
+      record {
+        any = L .any;
+        most = L .most;
+        count = eb;
+        long = length-front h e n le ∙ L .long;
+        room = omega (arith, room-for, length-front w e′ (b + 1 + b + n) lw);
+        zero = zero-front w e′ (b + 1 + b + n) room-for z;
+      },
+      take-at e (drop n h) n (le ∙ lent-keys) ∙ same ∙ ap (hashesOf seed arena) lent-keys,
+    )
+
+-- an attempt over other hashes that are the same
+pub attempted : (hs hs′ : List ℕ) (n b : ℕ) (h w : List ℕ) (r : Bool) → hs ≡ hs′ → Attempted hs n b h w r → Attempted hs′ n b h w r
+attempted hs hs′ n b h w r e a = subst (λ (x : List ℕ). Attempted x n b h w r) e a
+
+-- attempt i, under the seed `seed` of mixing, after attempts that failed
+module _ (arena : List ℕ) (n i : ℕ) (failed : (q : ℕ) → q < i → attemptOf (attemptHashes arena n q) ≡ none) where
+  pub built-none : attempts ≤ i → (h w : List ℕ) → Built (attemptHashes arena n) n h w Exhausted
+  unfolding constructOf
+  built-none l h w = record {
+    answer = sym (ap answerOf e);
+    placed = λ j pl z. absurd (Option·none-ne-some (j, pl) (sym e ∙ z));
+    kept = λ j pl z. absurd (Option·none-ne-some (j, pl) (sym e ∙ z));
+  }
+    where
+      e : constructOf (attemptHashes arena n) ≡ none
+      e = least-of-none (λ q. attemptOf (attemptHashes arena n q)) attempts (λ q lq. failed q (omega arith))
+
+  module _ (b seed : ℕ) (h w : List ℕ) (r : Bool) (eb : b ≡ bucketsOf n) (es : seed ≡ seedOf i) (a : Attempted (hashesOf seed arena n) n b h w r) where
+    under : Attempted (attemptHashes arena n i) n b h w r
+    unfolding attemptHashes
+    under = attempted (hashesOf seed arena n) (hashesOf (seedOf i) arena n) n b h w r (ap (λ (x : ℕ). hashesOf x arena n) es) a
+
+    pub built-placed : i < attempts → r ≡ true → Built (attemptHashes arena n) n h w (Placed i)
+    unfolding constructOf
+    built-placed l t = record {
+      answer = sym (ap answerOf e);
+      placed = λ j pl z. ap (λ (x : ℕ). placing n x w) (sym eb) ∙ ap (λ (x : ℕ × Placing). x .1) (same j pl z);
+      kept = λ j pl z. under .hashes ∙ ap (λ (x : ℕ × Placing). attemptHashes arena n (x .0)) (same j pl z);
+    }
+      where
+        e : constructOf (attemptHashes arena n) ≡ some (i, placing n b w)
+        e = least-at (λ q. attemptOf (attemptHashes arena n q)) attempts i (placing n b w) l failed (under .ended .made t)
+
+        same : (j : ℕ) (pl : Placing) → constructOf (attemptHashes arena n) ≡ some (j, pl) → _≡_ {A = ℕ × Placing} (i, placing n b w) (j, pl)
+        same j pl z = Option·some-injective (i, placing n b w) (j, pl) (sym e ∙ z)
+
+    pub failed-more : r ≡ false → (q : ℕ) → q < i + 1 → attemptOf (attemptHashes arena n q) ≡ none
+    failed-more f q l = go (ℕ-discrete q i)
+      where
+        go : Dec (q ≡ i) → attemptOf (attemptHashes arena n q) ≡ none
+        go (yes z) = ap (λ (x : ℕ). attemptOf (attemptHashes arena n x)) z ∙ under .ended .failed f
+        go (no z) = failed q (lt-of-le-of-ne (omega arith) z)
+
+-- the slot of hash h under the pilot of its bucket k
+module _ (h n k : ℕ) (pilots : List ℕ) (e : k ≡ bucketOf h (length pilots)) where
+  pub index-low : (r : ℕ) → getD pilots k 0 < 2147483648 → r ≡ positionOf h (getD pilots k 0) n → r ≡ indexOf h pilots n
+  unfolding indexOf slotBy direct
+  index-low r l z =
+      z ∙ sym (ap (λ (t : Bool). cond t (positionOf h (getD pilots k 0) n) (getD pilots k 0 - 2147483648)) (lt-ltb (getD pilots k 0) 2147483648 l))
+      ∙ ap (λ (x : ℕ). slotBy h (getD pilots x 0) n) e
+
+  pub index-high : 2147483648 ≤ getD pilots k 0 → getD pilots k 0 - 2147483648 ≡ indexOf h pilots n
+  unfolding indexOf slotBy direct
+  index-high l =
+      sym (ap (λ (t : Bool). cond t (positionOf h (getD pilots k 0) n) (getD pilots k 0 - 2147483648)) (le-ltb (getD pilots k 0) 2147483648 l))
+      ∙ ap (λ (x : ℕ). slotBy h (getD pilots x 0) n) e

@@ -1,0 +1,93 @@
+-- `construct::construct` meets its contract. The loop's invariant: every attempt before i failed. Assumes nothing.
+use Prim.Native.Nat.{ℕ, _-_, _<_}
+use mathlib.Core.Path.{_≡_, refl, _∙_}
+use mathlib.Core.Option.{none}
+use native.Mathlib.Omega.{arith}
+use lib.ListN.{length}
+use borrow.Author.Needs.{needs}
+use Rattle.construct.specs.Construct.{attempts, attemptOf}
+use Rattle.construct.specs.Keys.{attemptHashes}
+use Rattle.construct.proofs.ConstructLaws.{lent-kept, built-none, built-placed, failed-more}
+use Rattle.construct.proofs.construct.Statement.{statement}
+use Rattle.construct.proofs.construct.Tie as tie
+
+abbrev Inv-loop : tie.InvT-loop
+Inv-loop arena h₀ w₀ n b i₀ h w i = (length h ≡ length h₀) × (length w ≡ length w₀) × ((q : ℕ) → q < i → attemptOf (attemptHashes arena n q) ≡ none)
+
+abbrev μ-loop : tie.MeasureT-loop
+μ-loop arena h₀ w₀ n b i₀ h w i = 8 - i
+
+buckets-requires : tie.Need-buckets-requires Inv-loop μ-loop
+buckets-requires c κs = search needs
+
+loop-holds : tie.Need-loop-holds Inv-loop μ-loop
+loop-holds c = (refl, refl, λ q l. absurd (omega arith))
+
+seed-requires : tie.Need-seed-requires Inv-loop μ-loop
+seed-requires c κs = search needs
+
+attempt-requires : tie.Need-attempt-requires Inv-loop μ-loop
+attempt-requires c κs =
+    let pre = c .before .before .before .before .before .before .before .before .before .pre in
+    let buckets = c .before .before .before .before .before .buckets in
+    let loop = c .before .before .before .before .loop in
+    (lent-kept _ _ _ _ pre _ _ (loop .inv .0) (loop .inv .1), buckets .ensures)
+
+same-length : tie.Need-same-length Inv-loop μ-loop
+same-length c = search needs
+
+same-length-2 : tie.Need-same-length-2 Inv-loop μ-loop
+same-length-2 c = search needs
+
+returns : tie.Need-returns Inv-loop μ-loop
+unfolding attempts
+returns c =
+    let a = c .before .before .before .before .before .attempt in
+    let buckets = c .before .before .before .before .before .before .before .before .before .before .before .buckets in
+    let loop = c .before .before .before .before .before .before .before .before .before .before .loop in
+    let seed = c .before .before .before .before .before .before .seed in
+    built-placed _ _ _ (loop .inv .2) _ _ (a .last .1 .0) (a .last .1 .1 .0) (a .result) (buckets .ensures) (seed .ensures) (a .ensures) (omega arith) (c .if1 .taken)
+
+add-i : tie.Need-add-i Inv-loop μ-loop
+add-i c = search needs
+
+loop-less : tie.Need-loop-less Inv-loop μ-loop
+loop-less c = search needs
+
+loop-again : tie.Need-loop-again Inv-loop μ-loop
+loop-again c =
+    let a = c .before .before .before .before .before .attempt in
+    let w = c .before .before .before .before .before .before .before .before .before .before .loop .inv in
+    let buckets = c .before .before .before .before .before .before .before .before .before .before .before .buckets in
+    let seed = c .before .before .before .before .before .before .seed in
+    (a .kept .1 .0 ∙ w .0, a .kept .1 .1 .0 ∙ w .1, failed-more _ _ _ (w .2) _ _ (a .last .1 .0) (a .last .1 .1 .0) (a .result) (buckets .ensures) (seed .ensures) (a .ensures) (c .if1 .left))
+
+same-length-3 : tie.Need-same-length-3 Inv-loop μ-loop
+same-length-3 c = search needs
+
+same-length-4 : tie.Need-same-length-4 Inv-loop μ-loop
+same-length-4 c = search needs
+
+returns-2 : tie.Need-returns-2 Inv-loop μ-loop
+unfolding attempts
+returns-2 c = built-none _ _ _ (c .before .loop .inv .2) (omega arith) _ _
+
+pub construct-spec : {M : Type 1} → statement M
+construct-spec =
+    tie.close
+    (tie.spec
+    Inv-loop
+    μ-loop
+    buckets-requires
+    loop-holds
+    seed-requires
+    attempt-requires
+    same-length
+    same-length-2
+    returns
+    add-i
+    loop-less
+    loop-again
+    same-length-3
+    same-length-4
+    returns-2)

@@ -1,0 +1,44 @@
+// Construct of the point index: keys placed by bucket and pilot, over eight seeds.
+pub mod attempt;
+pub mod group;
+pub mod keys;
+pub mod pilot;
+pub mod place;
+pub mod seat;
+pub mod single;
+pub mod twins;
+
+use attempt::attempt;
+use group::buckets;
+ghost use Rattle.construct.specs.Keys.{attemptHashes};
+ghost use Rattle.construct.specs.Layout.{Lent, Built};
+
+// What construct answers: the attempt that is taken, from 0, or that every attempt failed.
+pub enum Constructed {
+    Placed(u64),
+    Exhausted,
+}
+
+impl Constructed {
+    // The seeds that are tried.
+    pub const ATTEMPTS: u64 = 8;
+
+    // The keys for which there is one bucket.
+    pub const KEYS_PER_BUCKET: usize = 3;
+}
+
+// Places the first n keys of the arena under the first seed that serves. Where one does, its hashes, pilots and slots are left in the workspace.
+pub fn construct(arena: &[u8], h: &mut [u64], w: &mut [u32], n: usize) -> Constructed
+    requires { ⌜ Lent (now arena) (now h) (now w) n ⌝ }
+    ensures { λ r. ⌜ Built (attemptHashes (now (arena .entry)) n) n (now (h .exit)) (now (w .exit)) r ⌝ }
+{
+    let b = buckets(n);
+    let mut i = 0;
+    while i < Constructed::ATTEMPTS {
+        if attempt(arena, h, w, n, b, mixing::seed(i)) {
+            return Constructed::Placed(i);
+        }
+        i += 1;
+    }
+    Constructed::Exhausted
+}

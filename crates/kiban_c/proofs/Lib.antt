@@ -1,0 +1,5 @@
+pub mod BuildLaws
+pub mod FilterCallLaws
+mod ListingLaws
+mod ReadingLaws
+pub mod UniqueLaws

@@ -1,0 +1,5 @@
+pub mod Build
+pub mod FilterCalls
+pub mod Lent
+pub mod Reading
+pub mod Listing

@@ -1,0 +1,156 @@
+-- What is promised of the listing: which keys are shown and with which record, that the header counts the lines, that keys rise, that the
+-- call's answer and buffer are fixed, and the room that always suffices. Assumes nothing.
+use Prim.Native.Nat.{ℕ, _+_, _≤_}
+use native.Mathlib.Nat.{zero-add}
+use native.Mathlib.Omega.{arith}
+use mathlib.Core.Path.{_≡_, refl, sym, ap, _∙_}
+use mathlib.Core.Bool.{Bool, true, false, cond}
+use mathlib.Core.List.{List, [], _∷_, _++_, append-nil, List·Memᴰ}
+use mathlib.Core.List.List·Memᴰ.{List·Memᴰ·head, List·Memᴰ·tail}
+use mathlib.Core.Option.{Option, none, some}
+use lib.ListN.{length}
+use borrow.Author.Tests.{le-leb}
+use Rattle.words.specs.declared.part.Order.the-variants.{Less, Equal}
+use Rattle.words.specs.Part.{orderOf, sameAs}
+use Rattle.words.proofs.Laws.{AllBytes}
+use Rattle.words.proofs.Ordered.{same-self, same-equal, order-self, order-trans}
+use Rattle.records.specs.declared.Limit.{Limit}
+use Rattle.records.specs.declared.Limit.the-variants.{None, UpTo}
+use Rattle.records.specs.declared.Record.{Record}
+use Rattle.records.specs.Model.{Entry, recordsOf, greatest, lookup, Rises}
+use Rattle.records.specs.Model.Rises.{rises-none, rises-one, rises-more}
+use Rattle.point.specs.declared.Validated.the-variants.{Accepted}
+use Rattle.point.specs.Validate.{validateOf}
+use Rattle.point.specs.Table.{tableOf}
+use Rattle.point.proofs.SlotLaws.{holds-table}
+use Rattle.lines.specs.declared.Listed.{Listed}
+use Rattle.lines.specs.declared.Listed.the-variants.{Text}
+use Rattle.lines.specs.Shown.{Rule, tombstoneIn, newestTombstone, shown, Shows, showsFor, shownOf, ShownRise, shownOne, shownCount}
+use Rattle.lines.specs.Shown.ShownRise.{shown-none, shown-one, shown-more}
+use Rattle.lines.specs.Listing.{lineOf, lineFor, linesOf, textOfShown, textOf, listedOf, Listing}
+
+-- ---- a key's records in a table whose keys rise are its entry's
+
+rises-rest : (e : Entry) (es : List Entry) → Rises (e ∷ es) → Rises es
+rises-rest e [] g = rises-none
+rises-rest e (f ∷ es) (rises-more b g) = g
+
+rises-below : (e : Entry) (es : List Entry) (f : Entry) → Rises (e ∷ es) → List·Memᴰ f es → orderOf (e .key) (f .key) ≡ Less
+rises-below e (x ∷ es) f (rises-more b g) (List·Memᴰ·head q) = ap (λ (y : Entry). orderOf (e .key) (y .key)) q ∙ b
+rises-below e (x ∷ es) f (rises-more b g) (List·Memᴰ·tail m) = order-trans (e .key) (x .key) (f .key) b (rises-below x es f g m)
+
+apart : (a b : List ℕ) → (orderOf a b ≡ Less → sameAs a b ≡ false) × (orderOf a b ≡ Less → sameAs b a ≡ false)
+apart a b = (λ l. one (sameAs a b) refl l, λ l. other (sameAs b a) refl l)
+  where
+    one : (t : Bool) → sameAs a b ≡ t → orderOf a b ≡ Less → t ≡ false
+    one true e l = absurd (let q = same-equal a b e in let o : orderOf a b ≡ Equal = ap (orderOf a) (sym q) ∙ order-self a in let z : _≡_ {A = ℕ} 0 1 = cc in omega arith)
+    one false e l = refl
+
+    other : (t : Bool) → sameAs b a ≡ t → orderOf a b ≡ Less → t ≡ false
+    other true e l = absurd (let q = same-equal b a e in let o : orderOf a b ≡ Equal = ap (orderOf a) q ∙ order-self a in let z : _≡_ {A = ℕ} 0 1 = cc in omega arith)
+    other false e l = refl
+
+none-behind : (e : Entry) (es : List Entry) → Rises (e ∷ es) → recordsOf es (e .key) ≡ []
+unfolding recordsOf
+none-behind e [] g = refl
+none-behind e (f ∷ es) (rises-more b g) = rw (apart (e .key) (f .key) .1 b) (none-behind e es (skip es g))
+  where
+    skip : (xs : List Entry) → Rises (f ∷ xs) → Rises (e ∷ xs)
+    skip [] h = rises-one
+    skip (x ∷ xs) (rises-more c h) = rises-more (order-trans (e .key) (f .key) (x .key) b c) h
+
+own-records : (t : List Entry) (e : Entry) → Rises t → List·Memᴰ e t → recordsOf t (e .key) ≡ e .versions
+unfolding recordsOf
+own-records (x ∷ xs) e g (List·Memᴰ·head q) = rw (q, same-self (x .key), none-behind x xs g) (append-nil (x .versions))
+own-records (x ∷ xs) e g (List·Memᴰ·tail m) = rw (apart (x .key) (e .key) .0 (rises-below x xs e g m)) (own-records xs e (rises-rest x xs g) m)
+
+own-lookup : (t : List Entry) (e : Entry) (limit : Limit) → Rises t → List·Memᴰ e t → greatest limit (e .versions) ≡ lookup t (e .key) limit
+unfolding lookup
+own-lookup t e limit g m = ap (greatest limit) (sym (own-records t e g m))
+
+-- ---- which keys are shown
+
+module _ (t : List Entry) (rises : Rises t) (e : Entry) (among : List·Memᴰ e t) (limit : ℕ) where
+  shown-is : shown newestTombstone limit e ≡ cond (tombstoneIn (lookup t (e .key) None)) none (lookup t (e .key) (UpTo limit))
+  unfolding shown newestTombstone
+  shown-is = rw (own-lookup t e None rises among, own-lookup t e (UpTo limit) rises among)
+
+  -- THEOREM: a key that is shown has a newest record that is no tombstone, and shows its lookup under the limit
+  pub shown-only : (r : Record) → shown newestTombstone limit e ≡ some r → (tombstoneIn (lookup t (e .key) None) ≡ false) × (lookup t (e .key) (UpTo limit) ≡ some r)
+  shown-only r q = go (tombstoneIn (lookup t (e .key) None)) refl (sym shown-is ∙ q)
+    where
+      go : (b : Bool) → tombstoneIn (lookup t (e .key) None) ≡ b → cond b none (lookup t (e .key) (UpTo limit)) ≡ some r → (tombstoneIn (lookup t (e .key) None) ≡ false) × (lookup t (e .key) (UpTo limit) ≡ some r)
+      go true p f = absurd (let z : _≡_ {A = ℕ} 0 1 = cc in omega arith)
+      go false p f = (p, f)
+
+  -- THEOREM: and every such key is shown
+  pub shown-all : (r : Record) → tombstoneIn (lookup t (e .key) None) ≡ false → lookup t (e .key) (UpTo limit) ≡ some r → shown newestTombstone limit e ≡ some r
+  shown-all r p q = shown-is ∙ rw p q
+
+-- ---- the lines
+
+-- THEOREM: the lines are those of the keys shown, one for each
+pub lines-shown : (rule : Rule) (limit : ℕ) (t : List Entry) → linesOf rule limit t ≡ textOfShown (shownOf rule limit t)
+unfolding linesOf textOfShown shownOf
+lines-shown rule limit [] = refl
+lines-shown rule limit (e ∷ es) = go (shown rule limit e) (lines-shown rule limit es)
+  where
+    go : (o : Option Record) → linesOf rule limit es ≡ textOfShown (shownOf rule limit es) → lineFor (e .key) o ++ linesOf rule limit es ≡ textOfShown (showsFor (e .key) o (shownOf rule limit es))
+    go none h = h
+    go (some r) h = ap (λ (l : List ℕ). lineOf (e .key) r ++ l) h
+
+-- THEOREM: the number in the header is the number of lines that follow
+pub count-shown : (rule : Rule) (limit : ℕ) (t : List Entry) → shownCount rule limit t ≡ length (shownOf rule limit t)
+unfolding shownCount shownOf
+count-shown rule limit [] = refl
+count-shown rule limit (e ∷ es) = go (shown rule limit e) (count-shown rule limit es)
+  where
+    go : (o : Option Record) → shownCount rule limit es ≡ length (shownOf rule limit es) → shownOne o + shownCount rule limit es ≡ length (showsFor (e .key) o (shownOf rule limit es))
+    go none h = zero-add _ ∙ h
+    go (some r) h = let e : length (shownOf rule limit es) ≡ shownCount rule limit es = sym h in omega arith
+
+-- a key less than every key of a table stands before what the table shows
+shown-before : (rule : Rule) (limit : ℕ) (s : Shows) (e : Entry) (es : List Entry) → orderOf (s .key) (e .key) ≡ Less → Rises (e ∷ es) → ShownRise (shownOf rule limit (e ∷ es)) → ShownRise (s ∷ shownOf rule limit (e ∷ es))
+unfolding shownOf
+shown-before rule limit s e [] l g h = go (shown rule limit e) h
+  where
+    go : (o : Option Record) → ShownRise (showsFor (e .key) o []) → ShownRise (s ∷ showsFor (e .key) o [])
+    go none k = shown-one
+    go (some r) k = shown-more l k
+shown-before rule limit s e (f ∷ es) l (rises-more b g) h = go (shown rule limit e) h (shown-before rule limit s f es (order-trans (s .key) (e .key) (f .key) l b) g)
+  where
+    go : (o : Option Record) → ShownRise (showsFor (e .key) o (shownOf rule limit (f ∷ es))) → (ShownRise (shownOf rule limit (f ∷ es)) → ShownRise (s ∷ shownOf rule limit (f ∷ es)))
+        → ShownRise (s ∷ showsFor (e .key) o (shownOf rule limit (f ∷ es)))
+    go none k rest = rest k
+    go (some r) k rest = shown-more l k
+
+-- THEOREM: keys rise
+pub keys-rise : (rule : Rule) (limit : ℕ) (t : List Entry) → Rises t → ShownRise (shownOf rule limit t)
+unfolding shownOf
+keys-rise rule limit [] g = shown-none
+keys-rise rule limit (e ∷ []) g = go (shown rule limit e)
+  where
+    go : (o : Option Record) → ShownRise (showsFor (e .key) o [])
+    go none = shown-none
+    go (some r) = shown-one
+keys-rise rule limit (e ∷ f ∷ es) (rises-more b g) = go (shown rule limit e) (keys-rise rule limit (f ∷ es) g)
+  where
+    go : (o : Option Record) → ShownRise (shownOf rule limit (f ∷ es)) → ShownRise (showsFor (e .key) o (shownOf rule limit (f ∷ es)))
+    go none h = h
+    go (some r) h = shown-before rule limit (record { key = e .key; version = r }) f es b g h
+
+-- THEOREM: of an accepted body
+pub accepted-rise : (rule : Rule) (limit : ℕ) (body : List ℕ) (size : ℕ) → validateOf body size ≡ Accepted → AllBytes body → ShownRise (shownOf rule limit (tableOf body))
+accepted-rise rule limit body size ok all = keys-rise rule limit (tableOf body) (holds-table body size ok all .rules .rises)
+
+-- ---- the call
+
+module _ {rule : Rule} {input before : List ℕ} where
+  -- THEOREM: two results that meet the contract coincide, buffer included
+  pub listing-one : {r s : Listed} {after later : List ℕ} → Listing rule input before r after → Listing rule input before s later → (r ≡ s) × (after ≡ later)
+  listing-one p q = (p .answer ∙ sym (q .answer), p .buffer ∙ sym (q .buffer))
+
+  -- THEOREM: 131,072 bytes of room suffice for every input
+  pub room-suffices : {r : Listed} {after : List ℕ} → Listing rule input before r after → 131072 ≤ length before → r ≡ Text (length (textOf rule input))
+  unfolding listedOf
+  room-suffices p h = p .answer ∙ rw (le-leb (length (textOf rule input)) (length before) (omega (arith, p .room)))

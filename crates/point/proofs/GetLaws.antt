@@ -1,0 +1,209 @@
+-- What each test that get makes says of its answer, over the code's own values; a found record lies inside the data; none as a limit is
+-- the greatest sequence there is. Assumes nothing.
+use Prim.Native.Nat.{ℕ, zero, suc, _+_, _-_, _<_, _≤_}
+use native.Mathlib.Nat.{add-sub-cancel-left}
+use native.Mathlib.Omega.{arith}
+use mathlib.Core.Path.{_≡_, refl, sym, ap, _∙_}
+use mathlib.Core.List.{List, []}
+use mathlib.Core.Bool.{Bool, true, false, cond}
+use lib.ListN.{length, take, drop}
+use lib.Dec.{ltb}
+use borrow.Author.Tests.{ltb-false, lt-ltb, le-ltb, le-leb, lt-leb, eq-eqb, ne-eqb}
+use Rattle.words.specs.Field.{le}
+use Rattle.words.proofs.Laws.{AllBytes, le-lt}
+use Rattle.words.specs.Part.{sameAs}
+use Rattle.mixing.specs.Mixing.{hashOf, fingerprintOf}
+use Rattle.records.specs.declared.DataLength.the-variants.{Of}
+use Rattle.records.specs.declared.Limit.{Limit}
+use Rattle.records.specs.declared.Limit.the-variants.{None, UpTo}
+use Rattle.records.specs.declared.Record.{Record}
+use Rattle.records.specs.declared.Within.{Within}
+use Rattle.records.specs.declared.Within.the-variants as within
+use Rattle.records.specs.Model.{limitOf}
+use Rattle.records.specs.Places.{keyLength, keyAt, firstVersion, versionCount, sequenceAt}
+use Rattle.records.specs.Rules.{pastData}
+use Rattle.records.specs.Within.{firstWithin}
+use Rattle.records.proofs.CursorLaws.{key-cut}
+use Rattle.point.specs.declared.Versions.{Versions}
+use Rattle.point.specs.declared.Answer.{Answer}
+use Rattle.point.specs.declared.Answer.the-variants.{Found, Nothing, Refused}
+use Rattle.point.specs.declared.Located.{Located}
+use Rattle.point.specs.declared.Located.the-variants as located
+use Rattle.point.specs.declared.Opened.{Opened}
+use Rattle.point.specs.declared.Opened.the-variants as opened
+use Rattle.point.specs.Layout.{headerRefusal, seedIn, keysIn, arenaIn, pilotOf, directPast, slotOf, slotPlace}
+use Rattle.point.specs.Get.{locateHash, locateOf, openRecordOf, openAt, openOf, firstOfAll, firstFor, answerOf, getOf, partOf, valueOf}
+
+-- ---- the slot: n keys, pilot g, slot s, fingerprint f, u the 16 bits read, arena start a, offset o
+
+module _ (body : List ℕ) (h n g : ℕ) (isn : n ≡ keysIn body) (isg : g ≡ pilotOf body h) where
+  pub near-is : g < 2147483648 + n → directPast (keysIn body) (pilotOf body h) ≡ false
+  near-is l = rw (← isn, ← isg) (lt-leb (2147483648 + n) g l)
+
+  pub locate-past : 2147483648 + n ≤ g → locateHash body h ≡ located.Damaged
+  unfolding locateHash
+  locate-past l = rw (← isn, ← isg, le-leb (2147483648 + n) g l)
+
+  module _ (l : g < 2147483648 + n) (s f u : ℕ) (iss : s ≡ slotPlace body (slotOf body h)) (isu : u ≡ le 2 body (s + 8)) (isf : f ≡ fingerprintOf h) where
+    pub locate-other : (u ≡ f → ⊥) → locateHash body h ≡ located.Nothing
+    unfolding locateHash
+    locate-other ne = rw (near-is l, ← iss, ← isu, ← isf, ne-eqb u f ne)
+
+    module _ (a o : ℕ) (same : u ≡ f) (isa : a ≡ arenaIn body) (iso : o ≡ le 8 body s) where
+      pub locate-out : length body < a + o → locateHash body h ≡ located.Damaged
+      unfolding locateHash
+      locate-out p = rw (near-is l, ← iss, ← isu, ← isf, eq-eqb u f same, ← isa, ← iso, lt-ltb (length body) (a + o) p)
+
+      pub locate-at : a + o ≤ length body → locateHash body h ≡ located.At (a + o)
+      unfolding locateHash
+      locate-at p = rw (near-is l, ← iss, ← isu, ← isf, eq-eqb u f same, ← isa, ← iso, le-ltb (length body) (a + o) p)
+
+-- ---- the key
+
+module _ (body key : List ℕ) (r : ℕ) (isr : r ≡ headerRefusal body) where
+  pub locate-refused : (r ≡ 0 → ⊥) → locateOf body key ≡ located.Damaged
+  unfolding locateOf
+  locate-refused n = rw (← isr, ne-eqb r 0 n)
+
+  pub locate-on : r ≡ 0 → locateOf body key ≡ locateHash body (hashOf (seedIn body) key)
+  unfolding locateOf
+  locate-on e = rw (← isr, eq-eqb r 0 e)
+
+-- ---- the record
+
+module _ (body key : List ℕ) (p : ℕ) where
+  pub record-short : length body < p + 8 → openRecordOf body p key ≡ opened.Damaged
+  unfolding openRecordOf
+  record-short h = rw (lt-ltb (length body) (p + 8) h)
+
+  module _ (kl : ℕ) (fits : p + 8 ≤ length body) (isk : kl ≡ keyLength body p) where
+    pub record-cut : length body < p + 8 + kl → openRecordOf body p key ≡ opened.Damaged
+    unfolding openRecordOf
+    record-cut h = rw (le-ltb (length body) (p + 8) fits, ← isk, lt-ltb (length body) (p + 8 + kl) h)
+
+    module _ (whole : p + 8 + kl ≤ length body) (t : Bool) (ist : t ≡ sameAs (take (p + 8 + kl - (p + 8)) (drop (p + 8) body)) key) where
+      pub record-other : t ≡ false → openRecordOf body p key ≡ opened.Nothing
+      unfolding openRecordOf
+      record-other e =
+          rw (le-ltb (length body) (p + 8) fits, key-cut body p kl isk, ← isk, le-ltb (length body) (p + 8 + kl) whole, ← ist, e)
+
+      pub record-same : (v : ℕ) → t ≡ true → v ≡ versionCount body p → openRecordOf body p key ≡ opened.Open (record { first = p + 8 + kl; count = v })
+      unfolding openRecordOf
+      record-same v e ev =
+          rw (le-ltb (length body) (p + 8) fits, key-cut body p kl isk, ← isk, le-ltb (length body) (p + 8 + kl) whole, ← ist, e, ← ev)
+
+pub open-is : (body key : List ℕ) (l : Located) → l ≡ locateOf body key → openOf body key ≡ openAt body key l
+unfolding openOf
+open-is body key l e = rw (← e)
+
+-- an opened key's first version is inside the body, or right behind it
+record-inside : (body key : List ℕ) (p : ℕ) (v : Versions) → openRecordOf body p key ≡ opened.Open v → v .first ≤ length body
+unfolding openRecordOf
+record-inside body key p v e = go (ltb (length body) (p + 8)) (ltb (length body) (firstVersion body p)) (sameAs (keyAt body p) key) refl e
+  where
+    here : Versions
+    here = record { first = firstVersion body p; count = versionCount body p }
+
+    go : (s t u : Bool) → ltb (length body) (firstVersion body p) ≡ t
+        → cond s opened.Damaged (cond t opened.Damaged (cond u (opened.Open here) opened.Nothing)) ≡ opened.Open v → v .first ≤ length body
+    go true t u q f = absurd (let z : _≡_ {A = ℕ} 0 1 = cc in omega arith)
+    go false true u q f = absurd (let z : _≡_ {A = ℕ} 0 1 = cc in omega arith)
+    go false false false q f = absurd (let z : _≡_ {A = ℕ} 0 1 = cc in omega arith)
+    go false false true q f = let w : here ≡ v = cc in rw (← w) (ltb-false (length body) (firstVersion body p) q)
+
+pub open-inside : (body key : List ℕ) (v : Versions) → openOf body key ≡ opened.Open v → v .first ≤ length body
+unfolding openOf
+open-inside body key v e = go (locateOf body key) e
+  where
+    go : (l : Located) → openAt body key l ≡ opened.Open v → v .first ≤ length body
+    go (located.At p) f = record-inside body key p v f
+    go located.Nothing f = absurd (let z : _≡_ {A = ℕ} 0 1 = cc in omega arith)
+    go located.Damaged f = absurd (let z : _≡_ {A = ℕ} 0 1 = cc in omega arith)
+
+-- ---- the answer
+
+module _ (size : ℕ) (w : Within) (r : Record) (isw : w ≡ within.Found r) (t : Bool) (ist : t ≡ pastData (Of size) (r .offset) (r .length)) where
+  pub answer-past : t ≡ true → answerOf size w ≡ Refused 14
+  unfolding answerOf
+  answer-past e = rw (isw, ← ist, e)
+
+  pub answer-found : t ≡ false → answerOf size w ≡ Found r
+  unfolding answerOf
+  answer-found e = rw (isw, ← ist, e)
+
+pub answer-nothing : (size : ℕ) (w : Within) → w ≡ within.Nothing → answerOf size w ≡ Nothing
+unfolding answerOf
+answer-nothing size w e = rw e
+
+pub answer-damaged : (size : ℕ) (w : Within) → w ≡ within.Damaged → answerOf size w ≡ Refused 14
+unfolding answerOf
+answer-damaged size w e = rw e
+
+module _ (body key : List ℕ) (size most : ℕ) (o : Opened) (iso : o ≡ openOf body key) where
+  pub get-open : (v : Versions) (w : Within) → o ≡ opened.Open v → w ≡ firstWithin body most (v .first) (v .count)
+      → getOf body size key (UpTo most) ≡ answerOf size w
+  unfolding getOf firstFor
+  get-open v w e ew = rw (← iso, e, ← ew)
+
+  pub get-nothing : o ≡ opened.Nothing → getOf body size key (UpTo most) ≡ Nothing
+  unfolding getOf firstFor answerOf
+  get-nothing e = rw (← iso, e)
+
+  pub get-damaged : o ≡ opened.Damaged → getOf body size key (UpTo most) ≡ Refused 14
+  unfolding getOf firstFor answerOf
+  get-damaged e = rw (← iso, e)
+
+-- ---- no limit
+
+first-unlimited : (body : List ℕ) (p k : ℕ) → AllBytes body → firstOfAll body p k ≡ firstWithin body (limitOf None) p k
+unfolding firstOfAll firstWithin
+first-unlimited body p zero b = refl
+first-unlimited body p (suc k) b =
+    let l : sequenceAt body p ≤ limitOf None = omega (arith, le-lt 8 body p b) in
+    rw (le-leb (sequenceAt body p) (limitOf None) l)
+
+opened-unlimited : (body : List ℕ) (o : Opened) → AllBytes body → firstFor body o None ≡ firstFor body o (UpTo (limitOf None))
+unfolding firstFor
+opened-unlimited body (opened.Open v) b = first-unlimited body (v .first) (v .count) b
+opened-unlimited body opened.Nothing b = refl
+opened-unlimited body opened.Damaged b = refl
+
+-- THEOREM: none as a limit is the greatest sequence there is, on all bytes
+pub none-is-greatest : (body : List ℕ) (size : ℕ) (key : List ℕ) → AllBytes body → getOf body size key None ≡ getOf body size key (UpTo (limitOf None))
+unfolding getOf
+none-is-greatest body size key b = ap (answerOf size) (opened-unlimited body (openOf body key) b)
+
+pub get-limit : (body : List ℕ) (size : ℕ) (key : List ℕ) (limit : Limit) (m : ℕ) → AllBytes body → m ≡ limitOf limit
+    → getOf body size key (UpTo m) ≡ getOf body size key limit
+get-limit body size key None m b e = ap (λ (n : ℕ). getOf body size key (UpTo n)) e ∙ sym (none-is-greatest body size key b)
+get-limit body size key (UpTo l) m b e = ap (λ (n : ℕ). getOf body size key (UpTo n)) e
+
+-- ---- the value
+
+-- what is found lies inside the data
+answer-fits : (size : ℕ) (w : Within) (r : Record) → answerOf size w ≡ Found r → r .offset + r .length ≤ size
+unfolding answerOf
+answer-fits size (within.Found s) r e = go (ltb size (s .offset + s .length)) refl e
+  where
+    go : (t : Bool) → ltb size (s .offset + s .length) ≡ t → cond t (Refused 14) (Found s) ≡ Found r → r .offset + r .length ≤ size
+    go true q f = absurd (let z : _≡_ {A = ℕ} 0 1 = cc in omega arith)
+    go false q f = let d : s ≡ r = cc in rw (← d) (ltb-false size (s .offset + s .length) q)
+answer-fits size within.Nothing r e = absurd (let z : _≡_ {A = ℕ} 0 1 = cc in omega arith)
+answer-fits size within.Damaged r e = absurd (let z : _≡_ {A = ℕ} 0 1 = cc in omega arith)
+
+pub get-fits : (body : List ℕ) (size : ℕ) (key : List ℕ) (limit : Limit) (r : Record) → getOf body size key limit ≡ Found r → r .offset + r .length ≤ size
+unfolding getOf
+get-fits body size key limit r e = answer-fits size (firstFor body (openOf body key) limit) r e
+
+module _ (body bytes key : List ℕ) (limit : Limit) (a : Answer) (isa : a ≡ getOf body (length bytes) key limit) where
+  pub value-found : (r : Record) → a ≡ Found r → valueOf body bytes key limit ≡ take (r .offset + r .length - r .offset) (drop (r .offset) bytes)
+  unfolding valueOf partOf
+  value-found r e = rw (← isa, e, add-sub-cancel-left (r .offset) (r .length))
+
+  pub value-nothing : a ≡ Nothing → valueOf body bytes key limit ≡ []
+  unfolding valueOf partOf
+  value-nothing e = rw (← isa, e)
+
+  pub value-refused : (n : ℕ) → a ≡ Refused n → valueOf body bytes key limit ≡ []
+  unfolding valueOf partOf
+  value-refused n e = rw (← isa, e)

@@ -1,0 +1,8 @@
+pub mod HeaderLaws
+pub mod GetLaws
+pub mod ValidateLaws
+pub mod SlotLaws
+pub mod LookupLaws
+pub mod OpenLaws
+pub mod Theorems
+pub mod ExactLaws

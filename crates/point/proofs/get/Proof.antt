@@ -1,0 +1,18 @@
+-- `get` is the lookup up to the greatest sequence within the limit. Assumes nothing.
+use mathlib.Core.Path.{_∙_}
+use Rattle.point.proofs.GetLaws.{get-limit}
+use borrow.Author.Needs.{needs}
+use Rattle.point.proofs.get.Statement.{statement}
+use Rattle.point.proofs.get.Tie as tie
+
+limit-number-requires : tie.Need-limit-number-requires
+limit-number-requires c κs = search needs
+
+get-up-to-requires : tie.Need-get-up-to-requires
+get-up-to-requires c κs = search needs
+
+returns : tie.Need-returns
+returns c = c .get-up-to .ensures ∙ get-limit _ _ (c .before .before .before .before .before .args .key .now) (c .before .before .before .before .before .args .limit) _ (λ i. c .before .before .before .before .shared-slice-known .given i .fits) (c .before .limit-number .ensures)
+
+pub get-spec : {M : Type 1} → statement M
+get-spec = tie.close (tie.spec limit-number-requires get-up-to-requires returns)

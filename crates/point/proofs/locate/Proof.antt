@@ -1,0 +1,37 @@
+-- `locate` refuses what 20 and 21 refuse, and goes on by the key's hash. Assumes nothing.
+use mathlib.Core.Path.{sym, _∙_}
+use Rattle.point.proofs.HeaderLaws.{headed}
+use Rattle.point.proofs.GetLaws.{locate-refused, locate-on}
+use native.Mathlib.Omega.{arith}
+use borrow.Author.Needs.{needs}
+use Rattle.point.proofs.locate.Statement.{statement}
+use Rattle.point.proofs.locate.Tie as tie
+
+header-refusal-requires : tie.Need-header-refusal-requires
+header-refusal-requires c κs = search needs
+
+returns : tie.Need-returns
+returns c = sym (locate-refused _ _ _ (c .before .header-refusal .ensures) (c .if1 .taken))
+
+u64-at-requires : tie.Need-u64-at-requires
+u64-at-requires c κs = let h = headed _ (sym (c .before .header-refusal .ensures) ∙ c .if1 .left) in omega arith
+
+hash-requires : tie.Need-hash-requires
+hash-requires c κs = search needs
+
+locate-hash-requires : tie.Need-locate-hash-requires
+locate-hash-requires c κs = sym (c .before .before .before .header-refusal .ensures) ∙ c .before .before .if1 .left
+
+returns-2 : tie.Need-returns-2
+returns-2 c = let e = locate-on _ (c .before .before .before .before .before .before .before .args .key .now) _ (c .before .before .before .before .header-refusal .ensures) (c .before .before .before .if1 .left) in cc (e, c .locate-hash .ensures, c .before .hash .ensures, c .before .before .u64-at .ensures)
+
+pub locate-spec : {M : Type 1} → statement M
+locate-spec =
+    tie.close
+    (tie.spec
+    header-refusal-requires
+    returns
+    u64-at-requires
+    hash-requires
+    locate-hash-requires
+    returns-2)

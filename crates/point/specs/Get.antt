@@ -1,0 +1,98 @@
+-- Get in document 01's order (document 01, "Get"). Each `Damaged` here is a cause of 14, by its comment.
+use Prim.Native.Nat.{ℕ, zero, suc, _+_}
+use mathlib.Core.List.{List, [], _∷_}
+use mathlib.Core.Bool.{cond}
+use lib.Dec.{ltb, eqb}
+use lib.ListN.{length, take, drop}
+use Rattle.words.specs.Part.{sameAs}
+use Rattle.mixing.specs.Mixing.{hashOf, fingerprintOf}
+use Rattle.records.specs.declared.Limit.{Limit}
+use Rattle.records.specs.declared.Limit.the-variants.{None, UpTo}
+use Rattle.records.specs.declared.Within.{Within}
+use Rattle.records.specs.declared.Within.the-variants as within
+use Rattle.records.specs.Model.{kindByte}
+use Rattle.records.specs.Places.{keyAt, firstVersion, versionCount, kindAt, recordAt}
+use Rattle.records.specs.Rules.{badKind}
+use Rattle.records.specs.Within.{firstWithin}
+use Rattle.point.specs.declared.Located.{Located}
+use Rattle.point.specs.declared.Located.the-variants as located
+use Rattle.point.specs.declared.Opened.{Opened}
+use Rattle.point.specs.declared.Opened.the-variants as opened
+use Rattle.point.specs.declared.Answer.{Answer}
+use Rattle.point.specs.declared.Answer.the-variants.{Found, Nothing, Refused}
+use Rattle.point.specs.Layout.{headerRefusal, seedIn, keysIn, arenaIn, pilotOf, directPast, slotOf, slotPlace, recordOffset, fingerprintLow}
+
+-- the record that the slot of a hash names: 14 a chosen direct pilot at or past n; nothing where the low 16 fingerprint bits differ;
+-- 14 a record outside the body
+unfoldable pub locateHash : List ℕ → ℕ → Located
+locateHash body h =
+    cond (directPast (keysIn body) (pilotOf body h)) located.Damaged
+    (cond (eqb (fingerprintLow body (slotPlace body (slotOf body h))) (fingerprintOf h))
+    (cond (ltb (length body) (arenaIn body + recordOffset body (slotPlace body (slotOf body h)))) located.Damaged
+    (located.At (arenaIn body + recordOffset body (slotPlace body (slotOf body h)))))
+    located.Nothing)
+
+-- the place of a record for a key: 14 where 20 or 21 refuse
+unfoldable pub locateOf : List ℕ → List ℕ → Located
+locateOf body key = cond (eqb (headerRefusal body) 0) (locateHash body (hashOf (seedIn body) key)) located.Damaged
+
+-- the versions of the record at p: 14 record header outside the body, 14 key outside the body, nothing where the key differs
+unfoldable pub openRecordOf : List ℕ → ℕ → List ℕ → Opened
+openRecordOf body p key =
+    cond (ltb (length body) (p + 8)) opened.Damaged
+    (cond (ltb (length body) (firstVersion body p)) opened.Damaged
+    (cond (sameAs (keyAt body p) key)
+    (opened.Open (record { first = firstVersion body p; count = versionCount body p }))
+    opened.Nothing))
+
+-- a key's versions
+abbrev pub openAt : List ℕ → List ℕ → Located → Opened
+openAt body key (located.At p) = openRecordOf body p key
+openAt body key located.Nothing = opened.Nothing
+openAt body key located.Damaged = opened.Damaged
+
+unfoldable pub openOf : List ℕ → List ℕ → Opened
+openOf body key = openAt body key (locateOf body key)
+
+-- the first of k versions from p on, whatever its sequence: 14 outside the body, 14 of bad kind
+unfoldable pub firstOfAll : List ℕ → ℕ → ℕ → Within
+firstOfAll body p zero = within.Nothing
+firstOfAll body p (suc k) =
+    cond (ltb (length body) (p + 21)) within.Damaged (cond (badKind (kindAt body p)) within.Damaged (within.Found (recordAt body p)))
+
+-- the first version within the limit
+unfoldable pub firstFor : List ℕ → Opened → Limit → Within
+firstFor body opened.Nothing limit = within.Nothing
+firstFor body opened.Damaged limit = within.Damaged
+firstFor body (opened.Open v) None = firstOfAll body (v .first) (v .count)
+firstFor body (opened.Open v) (UpTo l) = firstWithin body l (v .first) (v .count)
+
+-- the answer: 14 if offset + length passes the data
+unfoldable pub answerOf : ℕ → Within → Answer
+answerOf size (within.Found r) = cond (ltb size (r .offset + r .length)) (Refused 14) (Found r)
+answerOf size within.Nothing = Nothing
+answerOf size within.Damaged = Refused 14
+
+-- the answer to a key under a limit, with data of this size
+unfoldable pub getOf : List ℕ → (size : ℕ) → List ℕ → Limit → Answer
+getOf body size key limit = answerOf size (firstFor body (openOf body key) limit)
+
+-- that part of the lent data, or the data's first zero bytes if no record is found
+unfoldable pub partOf : List ℕ → Answer → List ℕ
+partOf bytes (Found r) = take (r .length) (drop (r .offset) bytes)
+partOf bytes Nothing = []
+partOf bytes (Refused n) = []
+
+unfoldable pub valueOf : (body bytes : List ℕ) → List ℕ → Limit → List ℕ
+valueOf body bytes key limit = partOf bytes (getOf body (length bytes) key limit)
+
+-- the paper's number of an answer (0 found, 1 nothing, else the refusal's) and its values (kind, sequence, offset, length)
+abbrev pub answerNumber : Answer → ℕ
+answerNumber (Found r) = 0
+answerNumber Nothing = 1
+answerNumber (Refused n) = n
+
+abbrev pub answerValues : Answer → List ℕ
+answerValues (Found r) = kindByte (r .kind) ∷ r .sequence ∷ r .offset ∷ r .length ∷ []
+answerValues Nothing = []
+answerValues (Refused n) = []

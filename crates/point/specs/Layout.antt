@@ -1,0 +1,85 @@
+-- Where things stand in a body: the header, the pilots, the slots (document 01, "Layouts"), and the header's rules 20 and 21.
+use Prim.Native.Nat.{ℕ, _+_, _-_, _*_, _/_}
+use mathlib.Core.List.{List, [], _∷_}
+use mathlib.Core.Bool.{Bool, not, cond}
+use lib.ListN.{length, take}
+use lib.Dec.{ltb, leb, eqb}
+use Rattle.laws.specs.Refusals.{Cause, cause, firstOf, orElse}
+use Rattle.words.specs.Field.{le}
+use Rattle.words.specs.Part.{sameAs}
+use Rattle.mixing.specs.Mixing.{bucketOf, positionOf}
+
+-- KIBANPH2
+abbrev pub magic : List ℕ
+magic = 75 ∷ 73 ∷ 66 ∷ 65 ∷ 78 ∷ 80 ∷ 72 ∷ 50 ∷ []
+
+-- of the header: u64 seed, u32 n, u32 b, u64 arena start
+abbrev pub seedIn : List ℕ → ℕ
+seedIn body = le 8 body 8
+
+abbrev pub keysIn : List ℕ → ℕ
+keysIn body = le 4 body 16
+
+abbrev pub bucketsIn : List ℕ → ℕ
+bucketsIn body = le 4 body 20
+
+abbrev pub arenaIn : List ℕ → ℕ
+arenaIn body = le 8 body 24
+
+-- 20 body under 32 bytes or wrong magic
+abbrev pub magicCauses : List ℕ → List Cause
+magicCauses body = cause (ltb (length body) 32) 20 ∷ cause (not (sameAs (take 8 body) magic)) 20 ∷ []
+
+unfoldable pub magicRefusal : List ℕ → ℕ
+magicRefusal body = firstOf (magicCauses body)
+
+-- 21 dimensions: n from 1 to 2^31 − 1, b, arena start, arena start below the body's length
+abbrev pub dimensionCauses : (size n b arena : ℕ) → List Cause
+dimensionCauses size n b arena =
+    cause (eqb n 0) 21
+    ∷ cause (leb 2147483648 n) 21
+    ∷ cause (not (eqb b ((n + 2) / 3))) 21
+    ∷ cause (not (eqb arena (32 + 4 * b + 12 * n))) 21
+    ∷ cause (leb size arena) 21
+    ∷ []
+
+unfoldable pub dimensionRefusal : (size n b arena : ℕ) → ℕ
+dimensionRefusal size n b arena = firstOf (dimensionCauses size n b arena)
+
+-- 20 and 21, which validation and get check first
+unfoldable pub headerRefusal : List ℕ → ℕ
+headerRefusal body = orElse (magicRefusal body) (dimensionRefusal (length body) (keysIn body) (bucketsIn body) (arenaIn body))
+
+-- pilot i
+abbrev pub pilotAt : List ℕ → ℕ → ℕ
+pilotAt body i = le 4 body (32 + 4 * i)
+
+-- a direct pilot (2^31 + slot) at or past n
+abbrev pub directPast : (n pilot : ℕ) → Bool
+directPast n pilot = leb (2147483648 + n) pilot
+
+-- the slot that a pilot gives a hash
+unfoldable pub slotNumber : (n pilot h : ℕ) → ℕ
+slotNumber n pilot h = cond (leb 2147483648 pilot) (pilot - 2147483648) (positionOf h pilot n)
+
+-- the pilot of a hash's bucket
+unfoldable pub pilotOf : List ℕ → ℕ → ℕ
+pilotOf body h = pilotAt body (bucketOf h (bucketsIn body))
+
+-- the number of a hash's slot
+abbrev pub slotOf : List ℕ → ℕ → ℕ
+slotOf body h = slotNumber (keysIn body) (pilotOf body h) h
+
+-- where slot i stands
+unfoldable pub slotPlace : List ℕ → ℕ → ℕ
+slotPlace body i = 32 + 4 * bucketsIn body + 12 * i
+
+-- of the slot at s: u64 record offset, u16 fingerprint, and both it and the zero after it
+abbrev pub recordOffset : List ℕ → ℕ → ℕ
+recordOffset body s = le 8 body s
+
+abbrev pub fingerprintLow : List ℕ → ℕ → ℕ
+fingerprintLow body s = le 2 body (s + 8)
+
+abbrev pub fingerprintWide : List ℕ → ℕ → ℕ
+fingerprintWide body s = le 4 body (s + 8)

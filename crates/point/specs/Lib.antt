@@ -1,0 +1,5 @@
+pub mod Layout
+pub mod Validate
+pub mod Get
+pub mod Table
+pub mod Lookup

@@ -1,0 +1,395 @@
+// The reading side of the point index: validate, get, and the value of what get finds.
+use records::DataLength;
+use records::Limit;
+use records::Record;
+use records::Within;
+use records::cursor::Head;
+use words::field;
+use words::part;
+ghost use mathlib.Core.Path.{_≡_};
+ghost use mathlib.Core.Bool.{false};
+ghost use Prim.Native.Nat.{_+_, _≤_};
+ghost use lib.ListN.{length};
+ghost use Rattle.point.specs.Layout.{magicRefusal, dimensionRefusal, headerRefusal, keysIn, bucketsIn, arenaIn, pilotOf, directPast, slotOf, slotPlace};
+ghost use Rattle.point.specs.Validate.{pilotsRefusal, slotTest, slotRefusal, arenaRefusal, validationRefusal, validateOf, Checked, Reached, Stepping};
+ghost use Rattle.point.specs.Get.{locateHash, locateOf, openRecordOf, openOf, answerOf, getOf, valueOf};
+ghost use Rattle.records.specs.declared.DataLength.the-variants.{Of};
+ghost use Rattle.records.specs.declared.Limit.the-variants.{UpTo};
+ghost use Rattle.records.specs.Model.{limitOf};
+ghost use Rattle.records.specs.Rules.{entryRefusal};
+
+// The header of a body.
+pub struct Header {}
+
+impl Header {
+    // The bytes of the header.
+    pub const BYTES: usize = 32;
+
+    // The bytes of a slot.
+    pub const SLOT: usize = 12;
+
+    // A pilot from here on names its slot, which is added to it; a body has fewer keys.
+    pub const DIRECT: u64 = 2_147_483_648;
+}
+
+// What validation says of a body.
+pub enum Validated {
+    Accepted,
+    Refused(u8),
+}
+
+// The place of a record for a key: a place in the body, no record, or damage.
+pub enum Located {
+    At(usize),
+    Nothing,
+    Damaged,
+}
+
+// A key's versions: where the first stands, and how many there are.
+pub struct Versions {
+    pub first: usize,
+    pub count: u32,
+}
+
+// The opening of a key: its versions, no record, or damage.
+pub enum Opened {
+    Open(Versions),
+    Nothing,
+    Damaged,
+}
+
+// What get answers.
+pub enum Answer {
+    Found(Record),
+    Nothing,
+    Refused(u8),
+}
+
+impl Answer {
+    // The refusal of a lookup that meets damage.
+    pub const DAMAGE: u8 = 14;
+}
+
+// 20, or 0.
+fn magic_refusal(body: &[u8]) -> u8
+    ensures { λ r. ⌜ r ≡ magicRefusal (now (body .entry)) ⌝ }
+{
+    if body.len() < Header::BYTES {
+        return 20;
+    }
+    if part::same(&body[..8], b"KIBANPH2") {
+        return 0;
+    }
+    20
+}
+
+// 21, or 0: n keys, b buckets and an arena start in a body of `size` bytes.
+fn dimension_refusal(size: u64, n: u64, b: u64, arena: u64) -> u8
+    ensures { λ r. ⌜ r ≡ dimensionRefusal size n b arena ⌝ }
+{
+    if n == 0 {
+        return 21;
+    }
+    if Header::DIRECT <= n {
+        return 21;
+    }
+    if b != (n + 2) / 3 {
+        return 21;
+    }
+    if arena != Header::BYTES as u64 + 4 * b + Header::SLOT as u64 * n {
+        return 21;
+    }
+    if size <= arena {
+        return 21;
+    }
+    0
+}
+
+// 20 or 21, or 0: what validate and get check first.
+pub fn header_refusal(body: &[u8]) -> u8
+    ensures { λ r. ⌜ r ≡ headerRefusal (now (body .entry)) ⌝ }
+{
+    let r = magic_refusal(body);
+    if r != 0 {
+        return r;
+    }
+    dimension_refusal(
+        body.len() as u64,
+        field::u32_at(body, 16) as u64,
+        field::u32_at(body, 20) as u64,
+        field::u64_at(body, 24),
+    )
+}
+
+// The pilot of a hash's bucket.
+fn pilot_of(body: &[u8], h: u64) -> u32
+    requires { ⌜ headerRefusal (now body) ≡ 0 ⌝ }
+    ensures { λ r. ⌜ r ≡ pilotOf (now (body .entry)) h ⌝ }
+{
+    let i = mixing::bucket(h, field::u32_at(body, 20) as usize);
+    field::u32_at(body, Header::BYTES + 4 * i)
+}
+
+// Where the slot of a hash stands.
+fn slot_of(body: &[u8], h: u64) -> usize
+    requires { ⌜ (headerRefusal (now body) ≡ 0) × (directPast (keysIn (now body)) (pilotOf (now body) h) ≡ false) ⌝ }
+    ensures { λ r. ⌜ (r ≡ slotPlace (now (body .entry)) (slotOf (now (body .entry)) h)) × (r + 12 ≤ length (now (body .entry))) ⌝ }
+{
+    let b = field::u32_at(body, 20) as usize;
+    let pilot = pilot_of(body, h);
+    if Header::DIRECT <= pilot as u64 {
+        let i = (pilot as u64 - Header::DIRECT) as usize;
+        return Header::BYTES + 4 * b + Header::SLOT * i;
+    }
+    let i = mixing::position(h, pilot, field::u32_at(body, 16) as usize);
+    Header::BYTES + 4 * b + Header::SLOT * i
+}
+
+// The record that the slot of a hash names.
+fn locate_hash(body: &[u8], h: u64) -> Located
+    requires { ⌜ headerRefusal (now body) ≡ 0 ⌝ }
+    ensures { λ r. ⌜ r ≡ locateHash (now (body .entry)) h ⌝ }
+{
+    if Header::DIRECT + field::u32_at(body, 16) as u64 <= pilot_of(body, h) as u64 {
+        return Located::Damaged;
+    }
+    let s = slot_of(body, h);
+    if field::u16_at(body, s + 8) != mixing::fingerprint(h) {
+        return Located::Nothing;
+    }
+    let arena = field::u64_at(body, 24) as usize;
+    let offset = field::u64_at(body, s) as usize;
+    if body.len() - arena < offset {
+        return Located::Damaged;
+    }
+    Located::At(arena + offset)
+}
+
+// The place of a record for a key, by its hash alone.
+pub fn locate(body: &[u8], key: &[u8]) -> Located
+    ensures { λ r. ⌜ r ≡ locateOf (now (body .entry)) (now (key .entry)) ⌝ }
+{
+    if header_refusal(body) != 0 {
+        return Located::Damaged;
+    }
+    locate_hash(body, mixing::hash(key, field::u64_at(body, 8)))
+}
+
+// The versions of the record at a place, if it is the key's.
+pub fn open_record(body: &[u8], place: usize, key: &[u8]) -> Opened
+    ensures { λ r. ⌜ r ≡ openRecordOf (now (body .entry)) place (now (key .entry)) ⌝ }
+{
+    if body.len() < place {
+        return Opened::Damaged;
+    }
+    if body.len() - place < Head::BYTES {
+        return Opened::Damaged;
+    }
+    let from = place + Head::BYTES;
+    let size = field::u32_at(body, place) as usize;
+    if body.len() - from < size {
+        return Opened::Damaged;
+    }
+    let first = from + size;
+    if part::same(&body[from..first], key) {
+        let count = field::u32_at(body, place + 4);
+        return Opened::Open(Versions { first, count });
+    }
+    Opened::Nothing
+}
+
+// The versions of a key.
+pub fn open(body: &[u8], key: &[u8]) -> Opened
+    ensures { λ r. ⌜ r ≡ openOf (now (body .entry)) (now (key .entry)) ⌝ }
+{
+    let l = locate(body, key);
+    match l {
+        Located::At(place) => open_record(body, place, key),
+        Located::Nothing => Opened::Nothing,
+        Located::Damaged => Opened::Damaged,
+    }
+}
+
+// 22, or 0: every pilot, those of empty buckets too.
+fn pilots_refusal(body: &[u8]) -> u8
+    requires { ⌜ headerRefusal (now body) ≡ 0 ⌝ }
+    ensures { λ r. ⌜ r ≡ pilotsRefusal (now (body .entry)) (keysIn (now (body .entry))) 0 (bucketsIn (now (body .entry))) ⌝ }
+{
+    let n = field::u32_at(body, 16) as u64;
+    let b = field::u32_at(body, 20) as usize;
+    let mut i = 0;
+    while i < b {
+        if Header::DIRECT + n <= field::u32_at(body, Header::BYTES + 4 * i) as u64 {
+            return 22;
+        }
+        i += 1;
+    }
+    0
+}
+
+// 26, or 0: the slot of a hash names the place of its key, and holds its fingerprint, read as u32.
+fn slot_test(body: &[u8], h: u64, p: usize) -> u8
+    requires { ⌜ (headerRefusal (now body) ≡ 0) × (directPast (keysIn (now body)) (pilotOf (now body) h) ≡ false) × (arenaIn (now body) ≤ p) ⌝ }
+    ensures { λ r. ⌜ r ≡ slotTest (now (body .entry)) h p ⌝ }
+{
+    let s = slot_of(body, h);
+    if field::u64_at(body, s) != p as u64 - field::u64_at(body, 24) {
+        return 26;
+    }
+    if field::u32_at(body, s + 8) != mixing::fingerprint(h) as u32 {
+        return 26;
+    }
+    0
+}
+
+// 26, or 0, of the key at a place.
+fn slot_refusal(body: &[u8], p: usize) -> u8
+    requires { ⌜ Reached (now body) p ⌝ }
+    ensures { λ r. ⌜ r ≡ slotRefusal (now (body .entry)) p ⌝ }
+{
+    let from = p + Head::BYTES;
+    let to = from + field::u32_at(body, p) as usize;
+    slot_test(
+        body,
+        mixing::hash(&body[from..to], field::u64_at(body, 8)),
+        p,
+    )
+}
+
+// 23 to 29, or 0, of the entry at p after the one at prev: its key, its slot, its versions.
+fn entry_refusal(body: &[u8], data_length: u64, prev: usize, p: usize) -> u8
+    requires { ⌜ Stepping (now body) prev p ⌝ }
+    ensures { λ r. ⌜ r ≡ entryRefusal (slotRefusal (now (body .entry))) (now (body .entry)) (Of data_length) prev p ⌝ }
+{
+    let r = records::rules::key_refusal(body, prev, p);
+    if r != 0 {
+        return r;
+    }
+    let s = slot_refusal(body, p);
+    if s != 0 {
+        return s;
+    }
+    let first = p + Head::BYTES + field::u32_at(body, p) as usize;
+    records::rules::versions_refusal(
+        body,
+        DataLength::Of(data_length),
+        first,
+        field::u32_at(body, p + 4),
+    )
+}
+
+// 23 to 30, or 0, over the arena.
+fn arena_refusal(body: &[u8], data_length: u64) -> u8
+    requires { ⌜ Checked (now body) ⌝ }
+    ensures { λ r. ⌜ r ≡ arenaRefusal (now (body .entry)) data_length ⌝ }
+{
+    let arena = field::u64_at(body, 24) as usize;
+    let mut left = field::u32_at(body, 16);
+    let mut prev = arena;
+    let mut p = arena;
+    while 0 < left {
+        let r = entry_refusal(body, data_length, prev, p);
+        if r != 0 {
+            return r;
+        }
+        let next = records::cursor::next_entry(body, p);
+        prev = p;
+        p = next;
+        left -= 1;
+    }
+    if p == body.len() {
+        return 0;
+    }
+    30
+}
+
+// The number of the first rule that the body breaks, or 0.
+fn validation_refusal(body: &[u8], data_length: u64) -> u8
+    ensures { λ r. ⌜ r ≡ validationRefusal (now (body .entry)) data_length ⌝ }
+{
+    let r = header_refusal(body);
+    if r != 0 {
+        return r;
+    }
+    let q = pilots_refusal(body);
+    if q != 0 {
+        return q;
+    }
+    arena_refusal(body, data_length)
+}
+
+// Validates a body for data of a length.
+pub fn validate(body: &[u8], data_length: u64) -> Validated
+    ensures { λ r. ⌜ r ≡ validateOf (now (body .entry)) data_length ⌝ }
+{
+    let r = validation_refusal(body, data_length);
+    if r == 0 {
+        return Validated::Accepted;
+    }
+    Validated::Refused(r)
+}
+
+// The answer that the first version within a limit gives, with data of a length.
+fn answered(found: Within, data_length: u64) -> Answer
+    ensures { λ r. ⌜ r ≡ answerOf data_length found ⌝ }
+{
+    match found {
+        Within::Found(r) => {
+            if records::rules::past_data(DataLength::Of(data_length), r.offset, r.length) {
+                return Answer::Refused(Answer::DAMAGE);
+            }
+            Answer::Found(r)
+        }
+        Within::Nothing => Answer::Nothing,
+        Within::Damaged => Answer::Refused(Answer::DAMAGE),
+    }
+}
+
+// The key's record up to a sequence, with data of a length.
+pub fn get_up_to(body: &[u8], data_length: u64, key: &[u8], most: u64) -> Answer
+    ensures { λ r. ⌜ r ≡ getOf (now (body .entry)) data_length (now (key .entry)) (UpTo most) ⌝ }
+{
+    let o = open(body, key);
+    match o {
+        Opened::Open(v) => {
+            let first = v.first;
+            let found = records::search::first_within(body, most, first, v.count);
+            answered(found, data_length)
+        }
+        Opened::Nothing => Answer::Nothing,
+        Opened::Damaged => Answer::Refused(Answer::DAMAGE),
+    }
+}
+
+// A limit as a number: none is the greatest sequence there is.
+fn limit_number(limit: Limit) -> u64
+    ensures { λ r. ⌜ r ≡ limitOf limit ⌝ }
+{
+    match limit {
+        Limit::None => 0xffff_ffff_ffff_ffff,
+        Limit::UpTo(l) => l,
+    }
+}
+
+// The key's record within the limit.
+pub fn get<'b, 'd, 'k>(body: &'b [u8], data: &'d [u8], key: &'k [u8], limit: Limit) -> Answer
+    ensures { λ r. ⌜ r ≡ getOf (now (body .entry)) (length (now («data» .entry))) (now (key .entry)) limit ⌝ }
+{
+    get_up_to(body, data.len() as u64, key, limit_number(limit))
+}
+
+// The value of what get finds, as that part of the data; or the data's first zero bytes.
+pub fn value<'b, 'd, 'k>(body: &'b [u8], data: &'d [u8], key: &'k [u8], limit: Limit) -> &'d [u8]
+    ensures { λ r. ⌜ now r ≡ valueOf (now (body .entry)) (now («data» .entry)) (now (key .entry)) limit ⌝ }
+{
+    let a = get(body, data, key, limit);
+    match a {
+        Answer::Found(r) => {
+            let from = r.offset as usize;
+            let to = from + r.length as usize;
+            &data[from..to]
+        }
+        Answer::Nothing => &data[..0],
+        Answer::Refused(_) => &data[..0],
+    }
+}

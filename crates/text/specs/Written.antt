@@ -1,0 +1,15 @@
+-- What a writer leaves: a text put from a place on, as far as the buffer reaches. An empty buffer is thus a measure of the text's length.
+use Prim.Native.Nat.{ℕ, _+_, _^_, _<_}
+use mathlib.Core.Path.{_≡_}
+use mathlib.Core.List.{List}
+use lib.ListN.{length}
+use lib.Seq.{sets}
+
+-- the text from `at` on ends at a place that can be named
+pub record Ends (at : ℕ) (text : List ℕ) : Type 0 where
+  pub inside : at + length text < 2 ^ 64
+
+-- the buffer after the text was put from `at` on, what lies past the buffer's end being left out, and the place after the text
+pub record Written (before : List ℕ) (at : ℕ) (text after : List ℕ) (end : ℕ) : Type 0 where
+  pub buffer : after ≡ sets before at text
+  pub place : end ≡ at + length text
