@@ -3,7 +3,11 @@ use crate::table::Line;
 use std::path::{Path, PathBuf};
 
 /// The program's crate, and its ops in VECTORS.md. An op that sets what later ops work on goes to each program that needs it.
-const SPLITS: &[(&str, &[u8])] = &[("mixing_vectors", &[0x01, 0x02, 0x03]), ("fuse_vectors", &[0x04, 0x05, 0x32, 0x33])];
+const SPLITS: &[(&str, &[u8])] = &[
+    ("mixing_vectors", &[0x01, 0x02, 0x03]),
+    ("fuse_vectors", &[0x04, 0x05, 0x32, 0x33]),
+    ("filter_vectors", &[0x30, 0x31]),
+];
 
 /// The file that is split: `oracle vectors 1 FILE 1`, and the key hash of its bytes with seed 0.
 const SEED: u64 = 1;

@@ -158,7 +158,7 @@ fn output_agrees(out: &[u8], filter: &[u8]) -> bool {
     false
 }
 
-// Builds, and tests the answer and what is left: u8 number, bytes filter stand at `at`.
+// Takes the hashes, builds, and tests the answer and what is left: u8 number, bytes filter stand at `at`.
 fn built_agrees(
     hashes: &mut [u64],
     wide: &mut [u64],
@@ -167,6 +167,7 @@ fn built_agrees(
     p: &[u8],
     at: usize,
 ) -> bool {
+    take_hashes(hashes, p);
     let number = number_of(filter::build(hashes, wide, narrow, out));
     if number != vectors::u8_in(p, at) {
         return false;
@@ -218,7 +219,6 @@ fn lend(n: usize, w: usize, m: usize, o: usize, p: &[u8], answer: usize) -> bool
     let mut wide = wide_room();
     let mut narrow = narrow_room();
     let mut out = out_room();
-    take_hashes(&mut hashes[..n], p);
     built_agrees(
         &mut hashes[..n],
         &mut wide[..w],
@@ -243,9 +243,8 @@ fn made_agrees(p: &[u8]) -> bool {
         return false;
     }
     let mut hashes = hash_room();
-    make_hashes(&mut hashes[..n], vectors::u64_in(p, 0));
     let mut out = out_room();
-    if made_number(&mut hashes[..n], &mut out) != vectors::u8_in(p, 12) {
+    if made_number(&mut hashes[..n], &mut out, vectors::u64_in(p, 0)) != vectors::u8_in(p, 12) {
         return false;
     }
     if !all_u8(&out[size..], DIRTY) {
@@ -263,7 +262,8 @@ fn digest(filter: &[u8]) -> u64 {
 }
 
 // The number of building over all the workspace; 1 where any of it is not left zero, or, refused, not as it was.
-fn made_number(hashes: &mut [u64], out: &mut [u8]) -> u8 {
+fn made_number(hashes: &mut [u64], out: &mut [u8], seed: u64) -> u8 {
+    make_hashes(hashes, seed);
     let mut wide = wide_room();
     let mut narrow = narrow_room();
     let number = number_of(filter::build(hashes, &mut wide, &mut narrow, out));
