@@ -9,6 +9,7 @@ const SPLITS: &[(&str, &[u8])] = &[
     ("point_vectors", &[0x20, 0x21, 0x22]),
     ("listing_vectors", &[0x20, 0x23, 0x24]),
     ("fuse_vectors", &[0x04, 0x05, 0x32, 0x33]),
+    ("filter_vectors", &[0x30, 0x31]),
 ];
 
 /// The file that is split: `oracle vectors 1 FILE 1`, and the key hash of its bytes with seed 0.
