@@ -3,14 +3,14 @@
 use mathlib.Core.Path.{_≡_, refl, sym, ap, _∙_, subst}
 use mathlib.Core.Bool.{Bool, true, false, cond}
 use mathlib.Core.List.{List, _++_}
-use mathlib.Core.Logic.{_⊎_, inl, inr}
+use mathlib.Core.Logic.{inl, inr}
 use Prim.Native.Nat.{ℕ, zero, suc, _+_, _^_, _≤_, _<_}
 use native.Mathlib.Omega.{arith}
 use lib.ListN.{length, take, drop, length-append}
 use lib.Seq.{take-at, drop-at}
 use Rattle.laws.specs.Refusals.{First, first-given, first-only}
 use Rattle.laws.specs.Count.{count}
-use Rattle.mixing.specs.Mixing.{mixOf, mixOf-lt}
+use Rattle.mixing.specs.Mixing.{mixOf-lt}
 use Rattle.fuse.specs.declared.Sizes.{Sizes}
 use Rattle.fuse.specs.Positions.{cellsIn, Usable}
 use Rattle.fuse.specs.Asking.{containsOf}
@@ -34,7 +34,7 @@ use Rattle.filter.specs.declared.Built.{Built}
 use Rattle.filter.specs.declared.Built.the-variants.{Positive, Fuse, Refused}
 use Rattle.filter.specs.Reading.{readOf, positive, fuse}
 use Rattle.filter.specs.Asking.{askCellsOf, askOf}
-use Rattle.filter.specs.Building.{buildCauses, buildRefusal, attemptOf, seeded, byAttempt, byPlan, builtOf, unlessRefused, buildOf, writtenBy, lengthBy, outBy, BuildPost, WhyPositive, no-hashes, equal-hashes, no-attempt, FilterOf, asRead}
+use Rattle.filter.specs.Building.{buildCauses, buildRefusal, attemptOf, byAttempt, byPlan, builtOf, unlessRefused, buildOf, writtenBy, lengthBy, outBy, BuildPost, WhyPositive, no-hashes, equal-hashes, no-attempt, FilterOf, asRead}
 use Rattle.filter.proofs.AskLaws.{ask-positive, ask-fuse}
 use Rattle.filter.proofs.ExactLaws.{layout-reads}
 use Rattle.filter.proofs.BuildingLaws.{plan-zero, plan-some, plan-sizes, attempt-is, attempt-none, by-some, roomy, in-front}
@@ -234,6 +234,10 @@ module _ {hashes wide narrow out : List ℕ} {r : Built} {hashes' wide' narrow' 
     few : length hashes ≤ 65536
     unfolding number
     few = roomy (length hashes) (length wide) (length narrow) (length out) (passed number (builtOf hashes) r answered n .0) .few
+
+    -- its sizes can be used
+    pub built-usable : (s : Sizes) → r ≡ Fuse s → Usable (s .segment) (s .count)
+    built-usable s e = filter-usable hashes s (filter-cause s e) few
 
     -- the bytes in front of the output
     pub written : take (lengthBy r) out' ≡ writtenBy r (sorted hashes)

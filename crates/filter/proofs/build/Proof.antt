@@ -3,7 +3,6 @@ use mathlib.Core.Path.{_≡_, sym, ap, _∙_, subst}
 use Prim.Native.Nat.{ℕ}
 use lib.ListN.{length, replicate}
 use Rattle.filter.specs.Building.{Roomy}
-use native.Mathlib.Omega.{arith}
 use Rattle.filter.proofs.BuildingLaws.{roomy, build-refused, build-done}
 use borrow.Author.Needs.{needs}
 use Rattle.filter.proofs.build.Statement.{statement}

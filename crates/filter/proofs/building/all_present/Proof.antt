@@ -1,6 +1,6 @@
 -- The closing membership check: where it fails, one of the hashes is missing. The measure is what is left of the hashes. Assumes nothing.
-use mathlib.Core.Path.{_≡_, refl, sym, _∙_}
-use Prim.Native.Nat.{ℕ, _-_, _≤_, _<_}
+use mathlib.Core.Path.{_≡_, sym, _∙_}
+use Prim.Native.Nat.{ℕ, _-_, _≤_}
 use lib.ListN.{length, getD}
 use borrow.Author.Tests.{not-true}
 use native.Mathlib.Omega.{arith}

@@ -1,5 +1,5 @@
 -- The cells for n hashes, by the plan. Assumes nothing.
-use mathlib.Core.Path.{_≡_, sym, _∙_}
+use mathlib.Core.Path.{sym, _∙_}
 use Prim.Native.Nat.{_<_, _^_}
 use Rattle.fuse.specs.Positions.{Usable, cellsIn}
 use native.Mathlib.Omega.{arith}

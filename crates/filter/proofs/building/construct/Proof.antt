@@ -1,6 +1,5 @@
 -- A filter over its cells: the closing check never fails, so its last branch is absurd. Assumes nothing.
-use mathlib.Core.Path.{_≡_, ap, _∙_}
-use lib.ListN.{length}
+use mathlib.Core.Path.{_∙_}
 use Rattle.filter.proofs.BuildingLaws.{construct-none, construct-some, construct-check}
 use borrow.Author.Needs.{needs}
 use Rattle.filter.proofs.building.construct.Statement.{statement}

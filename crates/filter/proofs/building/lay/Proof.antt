@@ -1,5 +1,4 @@
 -- What is built, and the bytes in front. Assumes nothing.
-use lib.ListN.{length}
 use native.Mathlib.Omega.{arith}
 use Rattle.filter.proofs.BuildingLaws.{lay-positive, lay-refused, lay-usable, lay-fuse}
 use borrow.Author.Needs.{needs}

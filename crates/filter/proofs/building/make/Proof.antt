@@ -1,6 +1,5 @@
 -- What is built of sorted hashes, with the cells in their place. Assumes nothing.
-use mathlib.Core.Path.{_≡_, sym, _∙_}
-use lib.ListN.{length}
+use mathlib.Core.Path.{sym, _∙_}
 use native.Mathlib.Omega.{arith}
 use Rattle.filter.proofs.BuildingLaws.{make-spaced, made-twins, made-none, made-some}
 use borrow.Author.Needs.{needs}

@@ -1,5 +1,4 @@
 -- The length checks, in their order. Assumes nothing.
-use mathlib.Core.Path.{_≡_}
 use Prim.Native.Nat.{_<_, _^_}
 use Rattle.filter.specs.Building.{cellsFor}
 use native.Mathlib.Omega.{arith}

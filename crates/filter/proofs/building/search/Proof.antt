@@ -1,6 +1,6 @@
 -- The attempts, one after another: the loop's invariant is that those left give the first of all, and that the cells are as they were. Assumes nothing.
-use mathlib.Core.Path.{_≡_, refl, sym, ap, _∙_}
-use Prim.Native.Nat.{ℕ, _+_, _-_, _≤_, _<_}
+use mathlib.Core.Path.{_≡_, refl, _∙_}
+use Prim.Native.Nat.{_-_}
 use lib.ListN.{length}
 use native.Mathlib.Omega.{arith}
 use Rattle.filter.proofs.BuildingLaws.{Searching, searching-start, searching-end, tried-hit, tried-miss}
