@@ -1,6 +1,6 @@
 -- Construct: keys are placed by bucket and pilot, over the list of their hashes (document 01, "Arithmetic and construction").
 use Prim.Native.Nat.{ℕ, zero, suc, _+_, _-_, _/_, _^_}
-use mathlib.Core.Bool.{Bool, true, false, cond}
+use mathlib.Core.Bool.{Bool, cond}
 use mathlib.Core.List.{List, [], _∷_, _++_}
 use mathlib.Core.Option.{Option, none, some, Option·map}
 use lib.ListN.{length, getD, set, replicate}

@@ -13,7 +13,7 @@ use lib.Seq.{getD-set-same, getD-set-other}
 use Rattle.laws.specs.Count.{count, without, rising}
 use Rattle.laws.proofs.CountLaws.{count-cons, count-here, by-test}
 use Rattle.fuse.specs.Asking.{xorAt}
-use Rattle.peel.specs.Peel.{Peel, Attempt, lying, queued, skip, peel, settle, next, step, run, start, attempt, put, fill}
+use Rattle.peel.specs.Peel.{Peel, Attempt, lying, skip, peel, settle, next, step, run, start, attempt, put, fill}
 use Rattle.peel.specs.Sound.{Placed, Peelable, hashes}
 use Rattle.peel.specs.Loops.{Below, Spare}
 use Rattle.peel.specs.Table.{xors, stack, peels, lowered, stirred, noted, Queued, Tables, Ready}

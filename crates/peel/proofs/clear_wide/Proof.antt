@@ -3,7 +3,7 @@ use mathlib.Core.Path.{_≡_, refl}
 use Prim.Native.Nat.{ℕ, _-_, _<_, _≤_}
 use native.Mathlib.Omega.{arith}
 use borrow.Author.Needs.{needs}
-use lib.ListN.{length, getD, set, length-set}
+use lib.ListN.{length, getD, length-set}
 use Rattle.peel.proofs.TableLaws.{zeros-more}
 use Rattle.peel.proofs.clear_wide.Statement.{statement}
 use Rattle.peel.proofs.clear_wide.Tie as tie

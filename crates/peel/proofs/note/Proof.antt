@@ -1,5 +1,4 @@
 -- A cell of degree 1 is queued. Assumes nothing.
-use Prim.Native.Nat.{_-_}
 use native.Mathlib.Omega.{arith}
 use borrow.Author.Needs.{needs}
 use Rattle.peel.proofs.TableLaws.{queued-push, queued-pass}

@@ -1,6 +1,5 @@
 -- The hashes are loaded, the cells of degree 1 queued, and all steps taken. Assumes nothing.
 use mathlib.Core.Path.{_≡_}
-use Prim.Native.Nat.{_-_}
 use native.Mathlib.Omega.{arith}
 use borrow.Author.Needs.{needs}
 use lib.ListN.{length}

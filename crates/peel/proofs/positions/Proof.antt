@@ -1,5 +1,4 @@
 -- The four cells of a hash. Assumes nothing.
-use Prim.Native.Nat.{_-_}
 use borrow.Author.Needs.{needs}
 use Rattle.peel.proofs.PlaceLaws.{positions-are}
 use Rattle.peel.proofs.positions.Statement.{statement}
