@@ -4,3 +4,5 @@ pub mod WriteLaws
 pub mod ExactLaws
 pub mod UniqueLaws
 pub mod Figures
+pub mod BuildingLaws
+pub mod BuiltLaws

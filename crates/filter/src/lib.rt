@@ -1,4 +1,4 @@
-// The filter's public calls: reading its bytes, asking it, writing it.
+// The filter's public calls: reading its bytes, asking it, writing it, building it.
 ghost use mathlib.Core.Bool.{true};
 ghost use mathlib.Core.Path.{_≡_};
 ghost use Prim.Native.Nat.{_≤_};
@@ -7,6 +7,10 @@ ghost use Rattle.words.specs.Field.{splice};
 ghost use Rattle.filter.specs.Reading.{readOf, frontOf, acceptable};
 ghost use Rattle.filter.specs.Asking.{askCellsOf, askOf};
 ghost use Rattle.filter.specs.Writing.{WritePost};
+ghost use Rattle.filter.specs.Building.{BuildPost};
+
+mod building;
+
 use fuse::Sizes;
 use fuse::header;
 use words::part;
@@ -30,6 +34,26 @@ pub enum Written {
     Length(usize),
     Unaccepted,
     Short,
+}
+
+// What building gives: Positive, the sizes of the filter that was written, or a refusal with its number.
+pub enum Built {
+    Positive,
+    Fuse(Sizes),
+    Refused(u8),
+}
+
+impl Built {
+    // The most hashes.
+    pub const LARGEST: usize = 65_536;
+    // The attempts, each with a seed of its own.
+    pub const ATTEMPTS: u64 = 100;
+    // The refusals: too many hashes, workspace too short, output too short.
+    pub const MANY: u8 = 12;
+
+    pub const SPACE: u8 = 9;
+
+    pub const SHORT: u8 = 6;
 }
 
 // Reads a filter's bytes.
@@ -119,4 +143,19 @@ pub fn write(filter: SstFilter, cells: &[u8], out: &mut [u8]) -> Written
     } else {
         Written::Unaccepted
     }
+}
+
+// Builds a filter of the hashes, and writes it; the hashes are left sorted, and the workspace zero.
+pub fn build(hashes: &mut [u64], wide: &mut [u64], narrow: &mut [u32], out: &mut [u8]) -> Built
+    ensures { λ r. ⌜ BuildPost (now (hashes .entry)) (now (wide .entry)) (now (narrow .entry)) (now (out .entry)) r (now (hashes .exit)) (now (wide .exit)) (now (narrow .exit)) (now (out .exit)) ⌝ }
+{
+    let number = building::refusal(hashes.len(), wide.len(), narrow.len(), out.len());
+    if number != 0 {
+        return Built::Refused(number);
+    }
+    sort::sort(hashes);
+    let built = building::lay(hashes, wide, narrow, out);
+    part::clear_u64(wide);
+    part::clear_u32(narrow);
+    built
 }

@@ -1,0 +1,464 @@
+-- Laws of building: the checks, the plan, the attempts, the closing check and the bytes, as the code goes through them. Assumes nothing.
+use mathlib.Core.Path.{_≡_, refl, sym, ap, _∙_, subst}
+use mathlib.Core.Bool.{Bool, true, false, cond}
+use mathlib.Core.Logic.{_⊎_, inl, inr}
+use mathlib.Core.List.{List, [], _∷_, _++_, append-assoc}
+use Prim.Native.Nat.{ℕ, zero, suc, _+_, _-_, _*_, _^_, _≤_, _<_}
+use native.Mathlib.Omega.{arith}
+use lib.Dec.{ltb, eqb}
+use lib.ListN.{length, getD, take, drop, replicate, length-append}
+use lib.Seq.{drop-drop}
+use borrow.Author.Tests.{lt-ltb, le-ltb, ltb-false, eqb-true, eqb-false}
+use borrow.Rule.Slice.PartMut.{putMid, put-same, mid-len}
+use Rattle.laws.specs.Refusals.{None, none-here, none-more, Numbered, numbered-none, numbered-more, none-only}
+use Rattle.laws.specs.Count.{count}
+use Rattle.laws.specs.Cases.{eq-or-ne}
+use Rattle.laws.proofs.CountLaws.{by-test, count-cons, count-here}
+use Rattle.words.specs.Field.{splice}
+use Rattle.words.proofs.Laws.{drop-splice-in}
+use Rattle.mixing.specs.Mixing.{mixOf}
+use Rattle.fuse.specs.declared.Sizes.{Sizes}
+use Rattle.fuse.specs.Positions.{cellsIn, Usable}
+use Rattle.fuse.specs.Asking.{containsOf}
+use Rattle.fuse.specs.Layout.{positiveBytes, headerOf}
+use Rattle.fuse.proofs.HeaderLaws.{header-length}
+use Rattle.sizing.specs.declared.Plan.{Plan}
+use Rattle.sizing.specs.declared.Plan.the-variants as plan
+use Rattle.sizing.specs.Sizing.{sizesOf, planOf}
+use Rattle.sizing.proofs.SizedLaws.{usable}
+use Rattle.sort.specs.Sort.{sorted}
+use Rattle.sort.specs.Twins.{twins}
+use Rattle.sort.proofs.SortLaws.{length-sorted}
+use Rattle.peel.specs.Peel.{succeeds, cellsOf}
+use Rattle.peel.specs.Table.{Tried}
+use Rattle.peel.proofs.AttemptLaws.{check-never-fails, cells-length}
+use Rattle.filter.specs.declared.Built.{Built}
+use Rattle.filter.specs.declared.Built.the-variants.{Positive, Fuse, Refused}
+use Rattle.filter.specs.Building.{cellsFor, buildCauses, buildRefusal, Roomy, peelsBy, firstFrom, attemptOf, seeded, byAttempt, byPlan, builtOf, unlessRefused, buildOf, cellsBy, outBy, hashesBy, spaceBy, BuildPost, Spaced, Searched, Constructed, Missing, madeBy, Made, Laid}
+
+-- ---- the plan
+
+split-plan : (t : Bool) (x s : Sizes) → cond t plan.Positive (plan.Fuse x) ≡ plan.Fuse s → (t ≡ false) × (x ≡ s)
+split-plan true x s e = (cc, cc)
+split-plan false x s e = (refl, cc)
+
+split-none : (t : Bool) (x : Sizes) → cond t plan.Positive (plan.Fuse x) ≡ plan.Positive → t ≡ true
+split-none true x e = refl
+split-none false x e = cc
+
+-- only for no hashes is the plan Positive
+pub plan-zero : (n : ℕ) → planOf n ≡ plan.Positive → n ≡ 0
+unfolding planOf
+plan-zero n e = eqb-true n 0 (split-none (eqb n 0) (sizesOf n) e)
+
+pub cells-none : (n : ℕ) → planOf n ≡ plan.Positive → 0 ≡ cellsFor n
+unfolding cellsFor
+cells-none n e = rw e
+
+module _ (n : ℕ) (s : Sizes) (e : planOf n ≡ plan.Fuse s) where
+  plan-split : (eqb n 0 ≡ false) × (sizesOf n ≡ s)
+  unfolding planOf
+  plan-split = split-plan (eqb n 0) (sizesOf n) s e
+
+  pub plan-some : 1 ≤ n
+  plan-some = let d = eqb-false n 0 (plan-split .0) in omega arith
+
+  pub plan-sizes : sizesOf n ≡ s
+  plan-sizes = plan-split .1
+
+  pub plan-cells : cellsIn (s .segment) (s .count) ≡ cellsFor n
+  unfolding cellsFor
+  plan-cells = rw e
+
+  pub plan-usable : n < 2 ^ 64 → Usable (s .segment) (s .count)
+  unfolding sizesOf
+  plan-usable l = subst (λ (x : Sizes). Usable (x .segment) (x .count)) plan-sizes (usable n plan-some l)
+
+-- 65,536 hashes ask for no more cells than a word holds
+pub cells-few : (n : ℕ) → n < 2 ^ 64 → cellsFor n < 2 ^ 32
+cells-few n l = go (planOf n) refl
+  where
+    go : (p : Plan) → planOf n ≡ p → cellsFor n < 2 ^ 32
+    go plan.Positive e = omega (arith, cells-none n e)
+    go (plan.Fuse s) e = omega (arith, plan-cells n s e, plan-usable n s e l .small)
+
+-- ---- the checks
+
+module _ (n wide narrow out : ℕ) where
+  pub refuse-many : 65536 < n → 12 ≡ buildRefusal n wide narrow out
+  unfolding buildRefusal
+  refuse-many l = rw (lt-ltb 65536 n l)
+
+  module _ (c : ℕ) (e : c ≡ cellsFor n) (few : n ≤ 65536) where
+    pub refuse-wide : wide < c + n → 9 ≡ buildRefusal n wide narrow out
+    unfolding buildRefusal
+    refuse-wide l =
+        let k : wide < cellsFor n + n = omega arith in
+        rw (le-ltb 65536 n few, lt-ltb wide (cellsFor n + n) k)
+
+    module _ (w : c + n ≤ wide) where
+      wide-passes : ltb wide (cellsFor n + n) ≡ false
+      wide-passes = let k : cellsFor n + n ≤ wide = omega arith in le-ltb wide (cellsFor n + n) k
+
+      pub refuse-narrow : narrow < 2 * c + n → 9 ≡ buildRefusal n wide narrow out
+      unfolding buildRefusal
+      refuse-narrow l =
+          let k : narrow < 2 * cellsFor n + n = omega arith in
+          rw (le-ltb 65536 n few, wide-passes, lt-ltb narrow (2 * cellsFor n + n) k)
+
+      module _ (m : 2 * c + n ≤ narrow) where
+        narrow-passes : ltb narrow (2 * cellsFor n + n) ≡ false
+        narrow-passes = let k : 2 * cellsFor n + n ≤ narrow = omega arith in le-ltb narrow (2 * cellsFor n + n) k
+
+        pub refuse-out : out < 48 + c → 6 ≡ buildRefusal n wide narrow out
+        unfolding buildRefusal
+        refuse-out l =
+            let k : out < 48 + cellsFor n = omega arith in
+            rw (le-ltb 65536 n few, wide-passes, narrow-passes, lt-ltb out (48 + cellsFor n) k)
+
+        pub refuse-none : 48 + c ≤ out → 0 ≡ buildRefusal n wide narrow out
+        unfolding buildRefusal
+        refuse-none l =
+            let k : 48 + cellsFor n ≤ out = omega arith in
+            rw (le-ltb 65536 n few, wide-passes, narrow-passes, le-ltb out (48 + cellsFor n) k)
+
+  pub build-numbered : Numbered (buildCauses n wide narrow out)
+  build-numbered =
+      let a : 0 < 12 = omega arith in
+      let b : 0 < 9 = omega arith in
+      let d : 0 < 6 = omega arith in
+      numbered-more a (numbered-more b (numbered-more b (numbered-more d numbered-none)))
+
+  all-pass : None (buildCauses n wide narrow out) → Roomy n wide narrow out
+  all-pass (none-more a (none-more b (none-more c (none-more d none-here)))) =
+      record { few = ltb-false _ _ a; wide-room = ltb-false _ _ b; narrow-room = ltb-false _ _ c; out-room = ltb-false _ _ d }
+
+  -- past the checks the lengths are enough
+  pub roomy : buildRefusal n wide narrow out ≡ 0 → Roomy n wide narrow out
+  unfolding buildRefusal
+  roomy e = all-pass (none-only build-numbered e)
+
+-- ---- the attempts
+
+module _ (s : Sizes) (hs : List ℕ) where
+  first-yes : (k i : ℕ) → peelsBy s hs i ≡ true → firstFrom s hs (suc k) i ≡ i
+  unfolding firstFrom
+  first-yes k i t = ap (λ (b : Bool). cond b i (firstFrom s hs k (suc i))) t
+
+  first-no : (k i : ℕ) → peelsBy s hs i ≡ false → firstFrom s hs (suc k) i ≡ firstFrom s hs k (suc i)
+  unfolding firstFrom
+  first-no k i t = ap (λ (b : Bool). cond b i (firstFrom s hs k (suc i))) t
+
+  first-none : (i : ℕ) → firstFrom s hs 0 i ≡ 0
+  unfolding firstFrom
+  first-none i = refl
+
+  -- the attempts left after i give the first of all
+  abbrev pub Searching : ℕ → Type 0
+  Searching i = (i ≤ 100) × (firstFrom s hs (100 - i) (i + 1) ≡ attemptOf s hs)
+
+  pub searching-start : Searching 0
+  unfolding attemptOf
+  searching-start = (omega arith, refl)
+
+  module _ (i : ℕ) (S : Searching i) where
+    one-less : i < 100 → 100 - i ≡ suc (100 - (i + 1))
+    one-less l = omega arith
+
+    pub searching-hit : i < 100 → peelsBy s hs (i + 1) ≡ true → i + 1 ≡ attemptOf s hs
+    searching-hit l t = sym (first-yes (100 - (i + 1)) (i + 1) t) ∙ ap (λ (k : ℕ). firstFrom s hs k (i + 1)) (sym (one-less l)) ∙ S .1
+
+    pub searching-miss : i < 100 → peelsBy s hs (i + 1) ≡ false → Searching (i + 1)
+    searching-miss l t = (
+      omega arith,
+      ap (firstFrom s hs (100 - (i + 1))) {x = i + 1 + 1} {y = suc (i + 1)} (omega arith) ∙ sym (first-no (100 - (i + 1)) (i + 1) t)
+          ∙ ap (λ (k : ℕ). firstFrom s hs k (i + 1)) (sym (one-less l)) ∙ S .1,
+    )
+
+    pub searching-end : 100 ≤ i → 0 ≡ attemptOf s hs
+    searching-end l = sym (ap (λ (k : ℕ). firstFrom s hs k (i + 1)) {x = 100 - i} {y = 0} (omega arith) ∙ first-none (i + 1)) ∙ S .1
+
+  -- none of the k attempts from i on peels every hash
+  abbrev pub NonePeels : (k i : ℕ) → Type 0
+  NonePeels k i = (j : ℕ) → i ≤ j → j < i + k → peelsBy s hs j ≡ false
+
+  none-first : (k i : ℕ) → NonePeels k i → firstFrom s hs k i ≡ 0
+  none-first zero i n = first-none i
+  none-first (suc k) i n = first-no k i (n i (omega arith) (omega arith)) ∙ none-first k (suc i) (λ j l m. n j (omega arith) (omega arith))
+
+  -- what the first attempt is, if it is one of those from i on
+  pub record FirstPeel (k i a : ℕ) : Type 0 where
+    pub from : i ≤ a
+    pub below : a < i + k
+    pub peels : peelsBy s hs a ≡ true
+    pub before : NonePeels (a - i) i
+
+  later-first : (k i a : ℕ) → peelsBy s hs i ≡ false → FirstPeel k (suc i) a → FirstPeel (suc k) i a
+  later-first k i a t F = record {
+    from = omega (arith, F .from);
+    below = omega (arith, F .below);
+    peels = F .peels;
+    before = λ j l m.
+        elim (eq-or-ne i j) [ inl e ↦ subst (λ (x : ℕ). peelsBy s hs x ≡ false) e t | inr d ↦ F .before j (omega arith) (omega (arith, F .from)) ];
+  }
+
+  first-is : (k i : ℕ) → 1 ≤ i → ((firstFrom s hs k i ≡ 0) × NonePeels k i) ⊎ FirstPeel k i (firstFrom s hs k i)
+  first-is zero i l = inl (first-none i, λ j m n. absurd (omega arith))
+  first-is (suc k) i l =
+      by-test (peelsBy s hs i)
+      (λ t. inr (subst (FirstPeel (suc k) i) (sym (first-yes k i t)) (record { from = omega arith; below = omega arith; peels = t; before = λ j m n. absurd (omega arith) })))
+      (λ t. elim (first-is k (suc i) (omega arith)) [
+        | inl z ↦ inl (first-no k i t ∙ z .0, λ j m n. elim (eq-or-ne i j) [ inl e ↦ subst (λ (x : ℕ). peelsBy s hs x ≡ false) e t | inr d ↦ z .1 j (omega arith) (omega arith) ])
+        | inr f ↦ inr (subst (FirstPeel (suc k) i) (sym (first-no k i t)) (later-first k i _ t f))
+      ])
+
+  -- the attempt found is 0 exactly where none of the 100 peels every hash, and else the first that does
+  pub attempt-is : ((attemptOf s hs ≡ 0) × NonePeels 100 1) ⊎ FirstPeel 100 1 (attemptOf s hs)
+  unfolding attemptOf
+  attempt-is = first-is 100 1 (omega arith)
+
+  pub attempt-none : NonePeels 100 1 → attemptOf s hs ≡ 0
+  unfolding attemptOf
+  attempt-none n = none-first 100 1 n
+
+  pub attempt-peels : (a : ℕ) → a ≡ attemptOf s hs → (a ≡ 0 → ⊥) → peelsBy s hs a ≡ true
+  attempt-peels a e n = elim attempt-is [ inl z ↦ absurd (n (e ∙ z .0)) | inr f ↦ ap (peelsBy s hs) e ∙ f .peels ]
+
+-- attempts have the seeds of their numbers
+pub by-some : (s : Sizes) (a : ℕ) → (a ≡ 0 → ⊥) → byAttempt s a ≡ Fuse (seeded s (mixOf a))
+by-some s zero n = absurd (n refl)
+by-some s (suc a) n = refl
+
+module _ (s : Sizes) (hs before after : List ℕ) (seed i : ℕ) (r : Bool) (T : Tried (s .segment) (s .count) seed hs before after r) (e : seed ≡ mixOf (i + 1)) where
+  tried-peels : r ≡ peelsBy s hs (i + 1)
+  tried-peels = T .answer ∙ ap (λ (x : ℕ). succeeds (s .segment) (s .count) x hs) e
+
+  pub tried-hit : Searching s hs i → i < 100 → r ≡ true → (cells : List ℕ) → Searched s hs cells after (i + 1)
+  tried-hit S l t cells = record {
+    first = searching-hit s hs i S l (sym tried-peels ∙ t);
+    cells =
+        T .cells ∙ ap (λ (b : Bool). cond b (cellsOf (s .segment) (s .count) seed hs) before) (sym (T .answer) ∙ t)
+        ∙ ap (λ (x : ℕ). cellsOf (s .segment) (s .count) x hs) e
+        ∙ ap (λ (b : Built). cellsBy b hs cells) (sym (by-some s (i + 1) (λ z. omega arith)));
+  }
+
+  pub tried-miss : Searching s hs i → i < 100 → r ≡ false → Searching s hs (i + 1) × (after ≡ before)
+  tried-miss S l f = (
+    searching-miss s hs i S l (sym tried-peels ∙ f),
+    T .cells ∙ ap (λ (b : Bool). cond b (cellsOf (s .segment) (s .count) seed hs) before) (sym (T .answer) ∙ f),
+  )
+
+-- ---- the closing check
+
+-- what stands in a list is counted
+pub counted-at : (xs : List ℕ) (i : ℕ) → i < length xs → 1 ≤ count (getD xs i 0) xs
+counted-at [] i l = absurd (omega arith)
+counted-at (x ∷ xs) zero l = omega (arith, count-here x xs)
+counted-at (x ∷ xs) (suc i) l = omega (arith, counted-at xs i (omega arith), count-cons (getD xs i 0) x xs)
+
+-- ---- built over the cells
+
+module _ (s : Sizes) (hs before after : List ℕ) (i : ℕ) (S : Searched s hs before after i) where
+  pub construct-none : i ≡ 0 → Constructed s hs before after Positive
+  construct-none z = record {
+    answer = ap (byAttempt s) (sym z ∙ S .first);
+    cells = S .cells ∙ ap (λ (a : ℕ). cellsBy (byAttempt s a) hs before) z;
+  }
+
+  module _ (some : i ≡ 0 → ⊥) (seed : ℕ) (e : seed ≡ mixOf i) where
+    cells-are : after ≡ cellsOf (s .segment) (s .count) seed hs
+    cells-are =
+        S .cells ∙ ap (λ (b : Built). cellsBy b hs before) (by-some s i some) ∙ ap (λ (x : ℕ). cellsOf (s .segment) (s .count) x hs) (sym e)
+
+    pub construct-some : Constructed s hs before after (Fuse (seeded s seed))
+    construct-some = record {
+      answer = ap (λ (x : ℕ). Fuse (seeded s x)) e ∙ sym (by-some s i some) ∙ ap (byAttempt s) (S .first);
+      cells = cells-are;
+    }
+
+    -- the closing check never fails
+    pub construct-check : Usable (s .segment) (s .count) → Missing after (seeded s seed) hs → ⊥
+    construct-check u m =
+        let t : succeeds (s .segment) (s .count) seed hs ≡ true =
+        ap (λ (x : ℕ). succeeds (s .segment) (s .count) x hs) e ∙ attempt-peels s hs i (S .first) some in
+        let y : containsOf after (seeded s seed) (m .hash) ≡ true =
+        ap (λ (c : List ℕ). containsOf c (seeded s seed) (m .hash)) cells-are ∙ check-never-fails (seeded s seed) u hs t (m .hash) (m .given) in
+        let n = m .absent in
+        let z : true ≡ false = sym y ∙ n in
+        let w : _≡_ {A = ℕ} 0 1 = cc in omega arith
+
+-- ---- the output
+
+-- a part put back is a splice
+put-splice : (at k : ℕ) (xs ys : List ℕ) → length ys ≡ k → putMid at k xs ys ≡ splice xs at ys
+unfolding splice
+put-splice at k xs ys e =
+    ap (λ (t : List ℕ). take at xs ++ (ys ++ t)) (drop-drop k at xs ∙ ap (λ (m : ℕ). drop (at + m) xs) (sym e))
+    ∙ sym (append-assoc (take at xs) ys (drop (at + length ys) xs))
+
+pub made-part : (b : Built) (hs out cells : List ℕ) (k : ℕ) → length cells ≡ k → cells ≡ cellsBy b hs (take k (drop 48 out))
+    → putMid 48 k out cells ≡ madeBy b hs out
+made-part Positive hs out cells k l e = ap (putMid 48 k out) e ∙ put-same 48 k out
+made-part (Fuse s) hs out cells k l e = put-splice 48 k out cells l ∙ ap (splice out 48) e
+made-part (Refused r) hs out cells k l e = ap (putMid 48 k out) e ∙ put-same 48 k out
+
+module _ (hs out : List ℕ) where
+  pub made-twins : twins hs ≡ true → Made hs out out Positive
+  unfolding byPlan
+  made-twins t = record { answer = sym (go (planOf (length hs))); output = refl }
+    where
+      go : (p : Plan) → byPlan p hs ≡ Positive
+      go plan.Positive = refl
+      go (plan.Fuse s) = ap (λ (b : Bool). cond b Positive (byAttempt s (attemptOf s hs))) t
+
+  pub made-none : planOf (length hs) ≡ plan.Positive → Made hs out out Positive
+  unfolding byPlan
+  made-none e = record { answer = ap (λ (p : Plan). byPlan p hs) (sym e); output = refl }
+
+  pub made-some : (s : Sizes) → planOf (length hs) ≡ plan.Fuse s → twins hs ≡ false → (c : ℕ) → c ≡ cellsFor (length hs) → (cells : List ℕ) (r : Built)
+      → length cells ≡ length (take (48 + c - 48) (drop 48 out)) → 48 + cellsFor (length hs) ≤ length out
+      → Constructed s hs (take (48 + c - 48) (drop 48 out)) cells r → Made hs out (putMid 48 (48 + c - 48) out cells) r
+  unfolding byPlan
+  made-some s e f c ec cells r l room C = record {
+    answer =
+        C .answer ∙ sym (ap (λ (b : Bool). cond b Positive (byAttempt s (attemptOf s hs))) f)
+        ∙ ap (λ (p : Plan). byPlan p hs) (sym e);
+    output = made-part r hs out cells (48 + c - 48) (l ∙ mid-len 48 (48 + c) out (omega arith)) (C .cells);
+  }
+
+-- the attempts work on the part of the output where the cells go
+pub make-spaced : (n : ℕ) (s : Sizes) → planOf n ≡ plan.Fuse s → (wide narrow c : ℕ) (out : List ℕ) → c ≡ cellsFor n → Roomy n wide narrow (length out)
+    → n < 2 ^ 64 → Spaced s n wide narrow (length (take (48 + c - 48) (drop 48 out)))
+make-spaced n s e wide narrow c out ec R l =
+    let m : length (take (48 + c - 48) (drop 48 out)) ≡ 48 + c - 48 = mid-len 48 (48 + c) out (omega (arith, R .out-room)) in
+    let k = plan-cells n s e in
+    record {
+      usable = plan-usable n s e l;
+      whole = omega arith;
+      few = omega (arith, R .few);
+      wide-room = omega (arith, R .wide-room);
+      narrow-room = omega (arith, R .narrow-room);
+    }
+
+-- ---- a header put in front of cells that stand in their place
+
+pub in-front : (xs ys : List ℕ) → splice xs 0 ys ≡ ys ++ drop (length ys) xs
+unfolding splice
+in-front xs ys = ap (λ (k : ℕ). ys ++ drop k xs) {x = 0 + length ys} {y = length ys} (omega arith)
+
+front-splice : (xs p q : List ℕ) → length p ≡ 48 → 48 + length q ≤ length xs → splice (splice xs 48 q) 0 p ≡ splice xs 0 (p ++ q)
+front-splice xs p q l r =
+    in-front (splice xs 48 q) p ∙ ap (λ (k : ℕ). p ++ drop k (splice xs 48 q)) l ∙ ap (λ (t : List ℕ). p ++ t) (drop-splice-in xs 48 q r)
+    ∙ sym (append-assoc p q (drop (48 + length q) xs))
+    ∙ ap (λ (k : ℕ). (p ++ q) ++ drop k xs) {x = 48 + length q} {y = length (p ++ q)} (omega (arith, length-append p q))
+    ∙ sym (in-front xs (p ++ q))
+
+-- what is built over a plan: Positive, or the plan's sizes with a seed
+pub data OfPlan (n : ℕ) : Built → Type 0 where
+  no-filter : OfPlan n Positive
+  a-filter : (s : Sizes) (a : ℕ) → planOf n ≡ plan.Fuse s → OfPlan n (Fuse (seeded s (mixOf a)))
+
+of-attempt : (n : ℕ) (s : Sizes) → planOf n ≡ plan.Fuse s → (a : ℕ) → OfPlan n (byAttempt s a)
+of-attempt n s e zero = no-filter
+of-attempt n s e (suc a) = a-filter s (suc a) e
+
+pub of-plan : (n : ℕ) (hs : List ℕ) → OfPlan n (byPlan (planOf n) hs)
+unfolding byPlan
+of-plan n hs = go (planOf n) refl
+  where
+    go : (p : Plan) → planOf n ≡ p → OfPlan n (byPlan p hs)
+    go plan.Positive e = no-filter
+    go (plan.Fuse s) e =
+        by-test (twins hs)
+        (λ t. subst (λ (b : Bool). OfPlan n (cond b Positive (byAttempt s (attemptOf s hs)))) (sym t) no-filter)
+        (λ t. subst (λ (b : Bool). OfPlan n (cond b Positive (byAttempt s (attemptOf s hs)))) (sym t) (of-attempt n s e (attemptOf s hs)))
+
+not-refused : (n : ℕ) (b : Built) → OfPlan n b → (r : ℕ) → b ≡ Refused r → ⊥
+not-refused n b no-filter r e = let z : _≡_ {A = ℕ} 0 1 = cc in omega arith
+not-refused n b (a-filter s a p) r e = let z : _≡_ {A = ℕ} 0 1 = cc in omega arith
+
+sizes-of : (n : ℕ) (b : Built) → OfPlan n b → (f : Sizes) → b ≡ Fuse f → n < 2 ^ 64
+    → Usable (f .segment) (f .count) × (cellsIn (f .segment) (f .count) ≡ cellsFor n)
+sizes-of n b no-filter f e l = let z : _≡_ {A = ℕ} 0 1 = cc in absurd (omega arith)
+sizes-of n b (a-filter s a p) f e l =
+    let q : seeded s (mixOf a) ≡ f = cc in
+    subst (λ (x : Sizes). Usable (x .segment) (x .count) × (cellsIn (x .segment) (x .count) ≡ cellsFor n)) q (plan-usable n s p l, plan-cells n s p)
+
+module _ (hs out mid : List ℕ) (b : Built) (M : Made hs out mid b) where
+  pub lay-positive : b ≡ Positive → (after : List ℕ) → after ≡ splice mid 0 positiveBytes → Laid hs out after b
+  lay-positive e after p = record {
+    answer = M .answer;
+    output =
+        p ∙ ap (λ (t : List ℕ). splice t 0 positiveBytes) (M .output ∙ ap (λ (x : Built). madeBy x hs out) e)
+        ∙ ap (λ (x : Built). outBy x hs out) (sym e);
+  }
+
+  pub lay-refused : (r : ℕ) → b ≡ Refused r → Laid hs out mid b
+  lay-refused r e = record {
+    answer = M .answer;
+    output = M .output ∙ ap (λ (x : Built). madeBy x hs out) e ∙ ap (λ (x : Built). outBy x hs out) (sym e);
+  }
+
+  module _ (s : Sizes) (e : b ≡ Fuse s) (l : length hs < 2 ^ 64) where
+    pub lay-usable : Usable (s .segment) (s .count)
+    lay-usable = sizes-of (length hs) _ (of-plan (length hs) hs) s (sym (M .answer) ∙ e) l .0
+
+    lay-cells : cellsIn (s .segment) (s .count) ≡ cellsFor (length hs)
+    lay-cells = sizes-of (length hs) _ (of-plan (length hs) hs) s (sym (M .answer) ∙ e) l .1
+
+    pub lay-fuse : 48 + cellsFor (length hs) ≤ length out → (after : List ℕ) → after ≡ splice mid 0 (headerOf s) → Laid hs out after (Fuse s)
+    lay-fuse room after p = record {
+      answer = sym e ∙ M .answer;
+      output =
+          p ∙ ap (λ (t : List ℕ). splice t 0 (headerOf s)) (M .output ∙ ap (λ (x : Built). madeBy x hs out) e)
+          ∙ front-splice out (headerOf s) (cellsOf (s .segment) (s .count) (s .seed) hs) (header-length s)
+          (omega (arith, cells-length (s .segment) (s .count) (s .seed) hs, lay-cells));
+    }
+
+-- ---- the call
+
+module _ (hashes wide narrow out : List ℕ) where
+  refused-by : (number : ℕ) → (number ≡ 0 → ⊥) → (b : Built) → Refused number ≡ unlessRefused number b
+  refused-by zero n b = absurd (n refl)
+  refused-by (suc r) n b = refl
+
+  pub build-refused : (number : ℕ) → number ≡ buildRefusal (length hashes) (length wide) (length narrow) (length out) → (number ≡ 0 → ⊥)
+      → BuildPost hashes wide narrow out (Refused number) hashes wide narrow out
+  unfolding buildOf
+  build-refused number e n =
+      let a : Refused number ≡ unlessRefused (buildRefusal (length hashes) (length wide) (length narrow) (length out)) (builtOf hashes) =
+      refused-by number n (builtOf hashes) ∙ ap (λ (k : ℕ). unlessRefused k (builtOf hashes)) e in
+      record {
+        answer = a;
+        hashes-after = ap (λ (b : Built). hashesBy b hashes) a;
+        wide-after = ap (λ (b : Built). spaceBy b wide) a;
+        narrow-after = ap (λ (b : Built). spaceBy b narrow) a;
+        out-after = ap (λ (b : Built). outBy b (sorted hashes) out) a;
+      }
+
+  kept : (b : Built) → ((r : ℕ) → b ≡ Refused r → ⊥) → (sorted hashes ≡ hashesBy b hashes) × ((space : List ℕ) → replicate (length space) 0 ≡ spaceBy b space)
+  kept Positive n = (refl, λ space. refl)
+  kept (Fuse s) n = (refl, λ space. refl)
+  kept (Refused r) n = absurd (n r refl)
+
+  pub build-done : buildRefusal (length hashes) (length wide) (length narrow) (length out) ≡ 0
+      → (r : Built) (hashes' wide' narrow' out' : List ℕ) → hashes' ≡ sorted hashes → Laid hashes' out out' r
+      → wide' ≡ replicate (length wide) 0 → narrow' ≡ replicate (length narrow) 0
+      → BuildPost hashes wide narrow out r hashes' wide' narrow' out'
+  unfolding buildOf builtOf
+  build-done z r hashes' wide' narrow' out' es L ew en =
+      let b : r ≡ byPlan (planOf (length hashes)) (sorted hashes) =
+      L .answer ∙ ap (λ (xs : List ℕ). byPlan (planOf (length xs)) xs) es
+      ∙ ap (λ (n : ℕ). byPlan (planOf n) (sorted hashes)) (length-sorted hashes) in
+      let a : r ≡ unlessRefused (buildRefusal (length hashes) (length wide) (length narrow) (length out)) (byPlan (planOf (length hashes)) (sorted hashes)) =
+      b ∙ ap (λ (k : ℕ). unlessRefused k (byPlan (planOf (length hashes)) (sorted hashes))) (sym z) in
+      let n : (q : ℕ) → r ≡ Refused q → ⊥ =
+      λ q e. not-refused (length hashes) _ (of-plan (length hashes) (sorted hashes)) q (sym b ∙ e) in
+      let k = kept r n in
+      record {
+        answer = a;
+        hashes-after = es ∙ k .0 ∙ ap (λ (x : Built). hashesBy x hashes) a;
+        wide-after = ew ∙ k .1 wide ∙ ap (λ (x : Built). spaceBy x wide) a;
+        narrow-after = en ∙ k .1 narrow ∙ ap (λ (x : Built). spaceBy x narrow) a;
+        out-after = L .output ∙ ap (λ (x : Built). outBy x hashes' out) a ∙ ap (λ (xs : List ℕ). outBy (unlessRefused (buildRefusal (length hashes) (length wide) (length narrow) (length out)) (byPlan (planOf (length hashes)) (sorted hashes))) xs out) es;
+      }

@@ -1,0 +1,262 @@
+-- What building promises: Positive exactly for its causes; a filter has the right sizes and keys, is read as what was built, and never calls
+-- one of its hashes absent; the closing check never fails; two results coincide. Assumes nothing.
+use mathlib.Core.Path.{_≡_, refl, sym, ap, _∙_, subst}
+use mathlib.Core.Bool.{Bool, true, false, cond}
+use mathlib.Core.List.{List, _++_}
+use mathlib.Core.Logic.{_⊎_, inl, inr}
+use Prim.Native.Nat.{ℕ, zero, suc, _+_, _^_, _≤_, _<_}
+use native.Mathlib.Omega.{arith}
+use lib.ListN.{length, take, drop, length-append}
+use lib.Seq.{take-at, drop-at}
+use Rattle.laws.specs.Refusals.{First, first-given, first-only}
+use Rattle.laws.specs.Count.{count}
+use Rattle.mixing.specs.Mixing.{mixOf, mixOf-lt}
+use Rattle.fuse.specs.declared.Sizes.{Sizes}
+use Rattle.fuse.specs.Positions.{cellsIn, Usable}
+use Rattle.fuse.specs.Asking.{containsOf}
+use Rattle.fuse.specs.Layout.{positiveBytes, headerOf, Accepted}
+use Rattle.fuse.proofs.FitLaws.{accepted-fitting}
+use Rattle.fuse.proofs.HeaderLaws.{header-length, positive-length}
+use Rattle.sizing.specs.declared.Plan.{Plan}
+use Rattle.sizing.specs.declared.Plan.the-variants as plan
+use Rattle.sizing.specs.Sizing.{sizesOf, planOf}
+use Rattle.sizing.proofs.SizedLaws.{usable}
+use Rattle.sort.specs.Sort.{sorted}
+use Rattle.sort.specs.Twins.{twins}
+use Rattle.sort.proofs.TwinLaws.{twins-sorted, repeats-doubles}
+use Rattle.sort.proofs.SortLaws.{count-sorted}
+use Rattle.peel.specs.Peel.{succeeds, cellsOf}
+use Rattle.peel.proofs.AttemptLaws.{check-never-fails, cells-length}
+use Rattle.filter.specs.declared.SstFilter.{SstFilter}
+use Rattle.filter.specs.declared.SstFilter.the-variants as read
+use Rattle.filter.specs.declared.Answer.the-variants.{Maybe}
+use Rattle.filter.specs.declared.Built.{Built}
+use Rattle.filter.specs.declared.Built.the-variants.{Positive, Fuse, Refused}
+use Rattle.filter.specs.Reading.{readOf, positive, fuse}
+use Rattle.filter.specs.Asking.{askCellsOf, askOf}
+use Rattle.filter.specs.Building.{buildCauses, buildRefusal, attemptOf, seeded, byAttempt, byPlan, builtOf, unlessRefused, buildOf, writtenBy, lengthBy, outBy, BuildPost, WhyPositive, no-hashes, equal-hashes, no-attempt, FilterOf, asRead}
+use Rattle.filter.proofs.AskLaws.{ask-positive, ask-fuse}
+use Rattle.filter.proofs.ExactLaws.{layout-reads}
+use Rattle.filter.proofs.BuildingLaws.{plan-zero, plan-some, plan-sizes, attempt-is, attempt-none, by-some, roomy, in-front}
+
+-- ---- what is built, by the way it goes
+
+-- no hashes, two that are equal, or by the attempts
+data Way (hashes : List ℕ) : Built → Type 0 where
+  none : length hashes ≡ 0 → Way hashes Positive
+  double : twins (sorted hashes) ≡ true → Way hashes Positive
+  tried : 1 ≤ length hashes → twins (sorted hashes) ≡ false → Way hashes (byAttempt (sizesOf (length hashes)) (attemptOf (sizesOf (length hashes)) (sorted hashes)))
+
+by-twins : (hashes : List ℕ) (b : Bool) → twins (sorted hashes) ≡ b → 1 ≤ length hashes
+    → Way hashes (cond b Positive (byAttempt (sizesOf (length hashes)) (attemptOf (sizesOf (length hashes)) (sorted hashes))))
+by-twins hashes true t l = double t
+by-twins hashes false t l = tried l t
+
+by-plan : (hashes : List ℕ) (p : Plan) → planOf (length hashes) ≡ p → Way hashes (byPlan p (sorted hashes))
+unfolding byPlan
+by-plan hashes plan.Positive e = none (plan-zero (length hashes) e)
+by-plan hashes (plan.Fuse s) e =
+    subst (λ (x : Sizes). Way hashes (cond (twins (sorted hashes)) Positive (byAttempt x (attemptOf x (sorted hashes))))) (plan-sizes (length hashes) s e)
+    (by-twins hashes (twins (sorted hashes)) refl (plan-some (length hashes) s e))
+
+way : (hashes : List ℕ) → Way hashes (builtOf hashes)
+unfolding builtOf
+way hashes = by-plan hashes (planOf (length hashes)) refl
+
+-- ---- Positive, exactly for its causes
+
+why : (hashes : List ℕ) (b : Built) → Way hashes b → b ≡ Positive → WhyPositive hashes
+why hashes b (none z) e = no-hashes z
+why hashes b (double t) e = let d = repeats-doubles hashes .yes (sym (twins-sorted hashes) ∙ t) in equal-hashes (d .0) (d .1)
+why hashes b (tried l t) e =
+    elim (attempt-is (sizesOf (length hashes)) (sorted hashes)) [
+      | inl z ↦ no-attempt (λ i a m. z .1 i a (omega arith))
+      | inr f ↦
+          let q = by-some (sizesOf (length hashes)) (attemptOf (sizesOf (length hashes)) (sorted hashes)) (λ z. omega (arith, f .from)) in
+          let z : _≡_ {A = ℕ} 0 1 = cc in absurd (omega arith)
+    ]
+
+pub positive-why : (hashes : List ℕ) → builtOf hashes ≡ Positive → WhyPositive hashes
+positive-why hashes e = why hashes (builtOf hashes) (way hashes) e
+
+back : (hashes : List ℕ) (b : Built) → Way hashes b → WhyPositive hashes → b ≡ Positive
+back hashes b (none z) w = refl
+back hashes b (double t) w = refl
+back hashes b (tried l t) (no-hashes z) = absurd (omega arith)
+back hashes b (tried l t) (equal-hashes v k) = absurd (omega (arith, repeats-doubles hashes .no (sym (twins-sorted hashes) ∙ t) v))
+back hashes b (tried l t) (no-attempt f) =
+    ap (byAttempt (sizesOf (length hashes))) (attempt-none (sizesOf (length hashes)) (sorted hashes) (λ j a m. f j a (omega arith)))
+
+pub why-positive : (hashes : List ℕ) → WhyPositive hashes → builtOf hashes ≡ Positive
+why-positive hashes w = back hashes (builtOf hashes) (way hashes) w
+
+-- ---- a filter, and whose it is
+
+whose : (hashes : List ℕ) (b : Built) → Way hashes b → (s : Sizes) → b ≡ Fuse s → FilterOf hashes s
+whose hashes b (none z) s e = let z : _≡_ {A = ℕ} 0 1 = cc in absurd (omega arith)
+whose hashes b (double t) s e = let z : _≡_ {A = ℕ} 0 1 = cc in absurd (omega arith)
+whose hashes b (tried l t) s e =
+    elim (attempt-is (sizesOf (length hashes)) (sorted hashes)) [
+      | inl z ↦
+          let q : byAttempt (sizesOf (length hashes)) (attemptOf (sizesOf (length hashes)) (sorted hashes)) ≡ Positive = ap (byAttempt (sizesOf (length hashes))) (z .0) in
+          let z : _≡_ {A = ℕ} 0 1 = cc in absurd (omega arith)
+      | inr f ↦
+          let q = by-some (sizesOf (length hashes)) (attemptOf (sizesOf (length hashes)) (sorted hashes)) (λ z. omega (arith, f .from)) in
+          record {
+            attempt = attemptOf (sizesOf (length hashes)) (sorted hashes);
+            some-hash = l;
+            numbered = (f .from, omega (arith, f .below));
+            sizes = cc;
+            peels = f .peels;
+            first = λ i a m. f .before i a (omega arith);
+          }
+    ]
+
+pub built-filter : (hashes : List ℕ) (s : Sizes) → builtOf hashes ≡ Fuse s → FilterOf hashes s
+built-filter hashes s e = whose hashes (builtOf hashes) (way hashes) s e
+
+module _ (hashes : List ℕ) (s : Sizes) (F : FilterOf hashes s) (few : length hashes ≤ 65536) where
+  filter-usable : Usable (s .segment) (s .count)
+  unfolding sizesOf
+  filter-usable = subst (λ (x : Sizes). Usable (x .segment) (x .count)) (sym (F .sizes)) (usable (length hashes) (F .some-hash) (omega arith))
+
+  filter-keys : s .keys ≡ length hashes
+  unfolding sizesOf
+  filter-keys = ap (λ (x : Sizes). x .keys) (F .sizes)
+
+  -- reading accepts its sizes beside its cells
+  filter-accepted : Accepted s (length (cellsOf (s .segment) (s .count) (s .seed) (sorted hashes)))
+  filter-accepted = record {
+    some-key = omega (arith, filter-keys, F .some-hash);
+    few-keys = omega (arith, filter-keys);
+    fits = record { usable = filter-usable; whole = cells-length (s .segment) (s .count) (s .seed) (sorted hashes) };
+  }
+
+  filter-seed : s .seed < 2 ^ 64
+  filter-seed = subst (λ (x : Sizes). x .seed < 2 ^ 64) (sym (F .sizes)) (mixOf-lt (F .attempt))
+
+  -- the closing membership check never fails
+  pub closing-check : (hash : ℕ) → 1 ≤ count hash hashes → containsOf (cellsOf (s .segment) (s .count) (s .seed) (sorted hashes)) s hash ≡ true
+  closing-check hash k =
+      check-never-fails s filter-usable (sorted hashes)
+      (subst (λ (x : Sizes). succeeds (x .segment) (x .count) (x .seed) (sorted hashes) ≡ true) (sym (F .sizes)) (F .peels)) hash (omega (arith, count-sorted hash hashes))
+
+-- ---- the bytes written
+
+written-by : (b : Built) (hs out : List ℕ) → ((q : ℕ) → b ≡ Refused q → ⊥) → take (lengthBy b) (outBy b hs out) ≡ writtenBy b hs
+written-by Positive hs out n = ap (take 48) (in-front out positiveBytes) ∙ take-at positiveBytes _ 48 positive-length
+written-by (Fuse s) hs out n =
+    ap (take (48 + cellsIn (s .segment) (s .count))) (in-front out (headerOf s ++ cellsOf (s .segment) (s .count) (s .seed) hs))
+    ∙ take-at (headerOf s ++ cellsOf (s .segment) (s .count) (s .seed) hs) _ (48 + cellsIn (s .segment) (s .count))
+    (omega (arith, length-append (headerOf s) (cellsOf (s .segment) (s .count) (s .seed) hs), header-length s, cells-length (s .segment) (s .count) (s .seed) hs))
+written-by (Refused r) hs out n = absurd (n r refl)
+
+module _ (hashes : List ℕ) (few : length hashes ≤ 65536) where
+  reads-by : (b : Built) → builtOf hashes ≡ b → ((q : ℕ) → b ≡ Refused q → ⊥) → readOf (writtenBy b (sorted hashes)) ≡ asRead b
+  reads-by Positive e n = layout-reads positiveBytes read.Positive positive
+  reads-by (Fuse s) e n =
+      let F = built-filter hashes s e in
+      layout-reads (headerOf s ++ cellsOf (s .segment) (s .count) (s .seed) (sorted hashes)) (read.Fuse s)
+      (fuse s (cellsOf (s .segment) (s .count) (s .seed) (sorted hashes)) (filter-accepted hashes s F few) (filter-seed hashes s F few))
+  reads-by (Refused r) e n = absurd (n r refl)
+
+  asks-by : (b : Built) → builtOf hashes ≡ b → ((q : ℕ) → b ≡ Refused q → ⊥) → (hash : ℕ) → 1 ≤ count hash hashes
+      → askOf (writtenBy b (sorted hashes)) hash ≡ Maybe
+  unfolding askOf
+  asks-by Positive e n hash k =
+      ap (λ (f : SstFilter). askCellsOf f (drop 48 positiveBytes) hash) (reads-by Positive e n) ∙ sym (ask-positive read.Positive (drop 48 positiveBytes) hash refl)
+  asks-by (Fuse s) e n hash k =
+      let F = built-filter hashes s e in
+      let cells : List ℕ = cellsOf (s .segment) (s .count) (s .seed) (sorted hashes) in
+      ap (λ (f : SstFilter). askCellsOf f (drop 48 (headerOf s ++ cells)) hash) (reads-by (Fuse s) e n)
+      ∙ ap (λ (c : List ℕ). askCellsOf (read.Fuse s) c hash) (drop-at (headerOf s) cells 48 (header-length s))
+      ∙ sym (ask-fuse (read.Fuse s) cells hash s refl true (sym (accepted-fitting s (length cells) (filter-accepted hashes s F few))) (sym (closing-check hashes s F few hash k)))
+  asks-by (Refused r) e n hash k = absurd (n r refl)
+
+-- ---- the call
+
+passed : (k : ℕ) (b x : Built) → unlessRefused k b ≡ x → ((q : ℕ) → x ≡ Refused q → ⊥) → (k ≡ 0) × (b ≡ x)
+passed zero b x e n = (refl, e)
+passed (suc k) b x e n = absurd (n (suc k) (sym e))
+
+refused-is : (k : ℕ) (b : Built) (q : ℕ) → unlessRefused k b ≡ Refused q → ((p : ℕ) → b ≡ Refused p → ⊥) → (k ≡ q) × (0 < q)
+refused-is zero b q e n = absurd (n q e)
+refused-is (suc k) b q e n = let z : suc k ≡ q = cc in (z, omega arith)
+
+never-refused : (hashes : List ℕ) (b : Built) → Way hashes b → (q : ℕ) → b ≡ Refused q → ⊥
+never-refused hashes b (none z) q e = let z : _≡_ {A = ℕ} 0 1 = cc in omega arith
+never-refused hashes b (double t) q e = let z : _≡_ {A = ℕ} 0 1 = cc in omega arith
+never-refused hashes b (tried l t) q e = go (attemptOf (sizesOf (length hashes)) (sorted hashes)) e
+  where
+    go : (a : ℕ) → byAttempt (sizesOf (length hashes)) a ≡ Refused q → ⊥
+    go zero p = let z : _≡_ {A = ℕ} 0 1 = cc in omega arith
+    go (suc a) p = let z : _≡_ {A = ℕ} 0 1 = cc in omega arith
+
+module _ {hashes wide narrow out : List ℕ} {r : Built} {hashes' wide' narrow' out' : List ℕ} (P : BuildPost hashes wide narrow out r hashes' wide' narrow' out') where
+  number : ℕ
+  number = buildRefusal (length hashes) (length wide) (length narrow) (length out)
+
+  answered : unlessRefused number (builtOf hashes) ≡ r
+  unfolding buildOf number
+  answered = sym (P .answer)
+
+  -- a refusal has its cause: the first of the checks that fails
+  pub refused-cause : (q : ℕ) → r ≡ Refused q → First q (buildCauses (length hashes) (length wide) (length narrow) (length out))
+  unfolding buildRefusal number
+  refused-cause q e =
+      let f = refused-is number (builtOf hashes) q (answered ∙ e) (never-refused hashes (builtOf hashes) (way hashes)) in
+      first-only q _ (f .1) (f .0)
+
+  -- and where a check fails there is a refusal
+  pub cause-refused : (q : ℕ) → 0 < q → First q (buildCauses (length hashes) (length wide) (length narrow) (length out)) → r ≡ Refused q
+  unfolding buildRefusal number
+  cause-refused q l f = sym answered ∙ ap (λ (k : ℕ). unlessRefused k (builtOf hashes)) (first-given f) ∙ go q l
+    where
+      go : (q : ℕ) → 0 < q → unlessRefused q (builtOf hashes) ≡ Refused q
+      go zero l = absurd (omega arith)
+      go (suc q) l = refl
+
+  -- Positive has its exact causes
+  pub positive-cause : r ≡ Positive → WhyPositive hashes
+  positive-cause e =
+      positive-why hashes (passed number (builtOf hashes) Positive (answered ∙ e) (λ q z. let w : _≡_ {A = ℕ} 0 1 = cc in omega arith) .1)
+
+  pub cause-positive : buildRefusal (length hashes) (length wide) (length narrow) (length out) ≡ 0 → WhyPositive hashes → r ≡ Positive
+  unfolding number
+  cause-positive z w = sym answered ∙ ap (λ (k : ℕ). unlessRefused k (builtOf hashes)) z ∙ why-positive hashes w
+
+  -- a filter is that of the hashes
+  pub filter-cause : (s : Sizes) → r ≡ Fuse s → FilterOf hashes s
+  filter-cause s e =
+      built-filter hashes s (passed number (builtOf hashes) (Fuse s) (answered ∙ e) (λ q z. let w : _≡_ {A = ℕ} 0 1 = cc in omega arith) .1)
+
+  module _ (n : (q : ℕ) → r ≡ Refused q → ⊥) where
+    few : length hashes ≤ 65536
+    unfolding number
+    few = roomy (length hashes) (length wide) (length narrow) (length out) (passed number (builtOf hashes) r answered n .0) .few
+
+    -- the bytes in front of the output
+    pub written : take (lengthBy r) out' ≡ writtenBy r (sorted hashes)
+    written =
+        ap (take (lengthBy r)) (P .out-after ∙ ap (λ (b : Built). outBy b (sorted hashes) out) (sym (P .answer))) ∙ written-by r (sorted hashes) out n
+
+    -- what is built is accepted by reading, with its sizes
+    pub built-reads : readOf (take (lengthBy r) out') ≡ asRead r
+    built-reads = ap readOf written ∙ reads-by hashes few r (passed number (builtOf hashes) r answered n .1) n
+
+    -- a filter built of a set of hashes never calls one of them absent
+    pub never-absent : (hash : ℕ) → 1 ≤ count hash hashes → askOf (take (lengthBy r) out') hash ≡ Maybe
+    never-absent hash k =
+        ap (λ (bytes : List ℕ). askOf bytes hash) written ∙ asks-by hashes few r (passed number (builtOf hashes) r answered n .1) n hash k
+
+-- two results that meet the contract coincide, lent bytes included
+pub build-unique : {hashes wide narrow out : List ℕ} {r q : Built} {h w m o h' w' m' o' : List ℕ}
+    → BuildPost hashes wide narrow out r h w m o → BuildPost hashes wide narrow out q h' w' m' o'
+    → (r ≡ q) × (h ≡ h') × (w ≡ w') × (m ≡ m') × (o ≡ o')
+build-unique p t = (
+  p .answer ∙ sym (t .answer),
+  p .hashes-after ∙ sym (t .hashes-after),
+  p .wide-after ∙ sym (t .wide-after),
+  p .narrow-after ∙ sym (t .narrow-after),
+  p .out-after ∙ sym (t .out-after),
+)

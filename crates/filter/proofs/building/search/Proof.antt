@@ -1,0 +1,109 @@
+-- The attempts, one after another: the loop's invariant is that those left give the first of all, and that the cells are as they were. Assumes nothing.
+use mathlib.Core.Path.{_≡_, refl, sym, ap, _∙_}
+use Prim.Native.Nat.{ℕ, _+_, _-_, _≤_, _<_}
+use lib.ListN.{length}
+use native.Mathlib.Omega.{arith}
+use Rattle.filter.proofs.BuildingLaws.{Searching, searching-start, searching-end, tried-hit, tried-miss}
+use borrow.Author.Needs.{needs}
+use Rattle.filter.proofs.building.search.Statement.{statement}
+use Rattle.filter.proofs.building.search.Tie as tie
+
+abbrev Inv-loop : tie.InvT-loop
+Inv-loop hashes wide₀ narrow₀ cells₀ s i₀ wide narrow cells i =
+    Searching s hashes i × (length wide ≡ length wide₀) × (length narrow ≡ length narrow₀) × (length cells ≡ length cells₀) × (cells ≡ cells₀)
+
+abbrev μ-loop : tie.MeasureT-loop
+μ-loop hashes wide₀ narrow₀ cells₀ s i₀ wide narrow cells i = 100 - i
+
+loop-holds : tie.Need-loop-holds Inv-loop μ-loop
+loop-holds c = (searching-start _ _, refl, refl, refl, refl)
+
+add-mix : tie.Need-add-mix Inv-loop μ-loop
+add-mix c = search needs
+
+mix-requires : tie.Need-mix-requires Inv-loop μ-loop
+mix-requires c κs = search needs
+
+cast-t11 : tie.Need-cast-t11 Inv-loop μ-loop
+cast-t11 c = search needs
+
+cast-t12 : tie.Need-cast-t12 Inv-loop μ-loop
+cast-t12 c = search needs
+
+attempt-requires : tie.Need-attempt-requires Inv-loop μ-loop
+attempt-requires c κs =
+    let p = c .before .before .before .before .before .before .before .before .before .before .before .before .pre in
+    let v = c .before .before .before .before .before .before .before .loop .inv in
+    (record { usable = p .usable; cells-are = v .3 ∙ p .whole }, p .few, omega (arith, p .wide-room), omega (arith, p .narrow-room), refl)
+
+add-result : tie.Need-add-result Inv-loop μ-loop
+add-result c = search needs
+
+same-length : tie.Need-same-length Inv-loop μ-loop
+same-length c = search needs
+
+same-length-2 : tie.Need-same-length-2 Inv-loop μ-loop
+same-length-2 c = search needs
+
+same-length-3 : tie.Need-same-length-3 Inv-loop μ-loop
+same-length-3 c = search needs
+
+returns : tie.Need-returns Inv-loop μ-loop
+returns c =
+    let s = c .before .before .before .before .before .before .before .before .before .before .before .before .before .before .before .before .before .before .before .before in
+    let l = c .before .before .before .before .before .before .before .before .before .before .before .before .before .before .before .loop in
+    tried-hit (s .args .s) (s .args .hashes .now) (l .cells) (c .before .before .before .before .before .before .before .attempt .last .1 .1 .1 .0) (c .before .before .before .before .before .before .before .before .before .before .before .before .before .mix .result) (l .i) (c .before .before .before .before .before .before .before .attempt .result) (c .before .before .before .before .before .before .before .attempt .ensures)
+    (c .before .before .before .before .before .before .before .before .before .before .before .before .before .mix .ensures) (l .inv .0) (c .before .before .before .before .before .before .before .before .before .before .before .before .before .before .loop-test .taken) (c .if1 .taken) (s .args .cells .now)
+
+add-i : tie.Need-add-i Inv-loop μ-loop
+add-i c = search needs
+
+loop-less : tie.Need-loop-less Inv-loop μ-loop
+loop-less c = search needs
+
+loop-again : tie.Need-loop-again Inv-loop μ-loop
+loop-again c =
+    let s = c .before .before .before .before .before .before .before .before .before .before .before .before .before .before .before .before .before .before .before .before in
+    let l = c .before .before .before .before .before .before .before .before .before .before .before .before .before .before .before .loop in
+    let m = tried-miss (s .args .s) (s .args .hashes .now) (l .cells) (c .before .before .before .before .before .before .before .attempt .last .1 .1 .1 .0) (c .before .before .before .before .before .before .before .before .before .before .before .before .before .mix .result) (l .i) (c .before .before .before .before .before .before .before .attempt .result) (c .before .before .before .before .before .before .before .attempt .ensures)
+    (c .before .before .before .before .before .before .before .before .before .before .before .before .before .mix .ensures) (l .inv .0) (c .before .before .before .before .before .before .before .before .before .before .before .before .before .before .loop-test .taken) (c .if1 .left) in
+    (m .0, search needs, search needs, search needs, m .1 ∙ l .inv .4)
+
+same-length-4 : tie.Need-same-length-4 Inv-loop μ-loop
+same-length-4 c = search needs
+
+same-length-5 : tie.Need-same-length-5 Inv-loop μ-loop
+same-length-5 c = search needs
+
+same-length-6 : tie.Need-same-length-6 Inv-loop μ-loop
+same-length-6 c = search needs
+
+returns-2 : tie.Need-returns-2 Inv-loop μ-loop
+returns-2 c =
+    let l = c .before .loop in
+    record { first = searching-end _ _ (l .i) (l .inv .0) (c .loop-test .left); cells = l .inv .4 }
+
+pub search-spec : {M : Type 1} → statement M
+search-spec =
+    tie.close
+    (tie.spec
+    Inv-loop
+    μ-loop
+    loop-holds
+    add-mix
+    mix-requires
+    cast-t11
+    cast-t12
+    attempt-requires
+    add-result
+    same-length
+    same-length-2
+    same-length-3
+    returns
+    add-i
+    loop-less
+    loop-again
+    same-length-4
+    same-length-5
+    same-length-6
+    returns-2)
