@@ -1,1 +1,6 @@
+-- What is promised, in the order to read: `Figures` (P1 to P9), `Finished` (demand 3 of an index), `Filter` (demand 3 of a filter),
+-- `Unique` (each call's result is fixed).
+pub mod Figures
 pub mod Finished
+pub mod Filter
+pub mod Unique
