@@ -4,3 +4,4 @@ pub mod Figures
 pub mod Finished
 pub mod Filter
 pub mod Unique
+pub mod IdleFilter
