@@ -5,3 +5,4 @@ pub mod Finished
 pub mod Filter
 pub mod Unique
 pub mod IdleFilter
+pub mod IdleAdd
