@@ -6,3 +6,4 @@ pub mod Filter
 pub mod Unique
 pub mod IdleFilter
 pub mod IdleAdd
+pub mod IdleIndex
