@@ -24,19 +24,24 @@ use Rattle.records.specs.Places.{keyAt, recordAt, versionsFrom, entryAt, entrie
 use Rattle.records.specs.Rules.{keyRises, keyRefusal, sequenceFalls, versionRefusal, versionsRefusal, entryRefusal}
 use Rattle.records.specs.Tables.{InData, TableInData}
 use Rattle.records.specs.Walk.{walkFrom}
+use Rattle.records.proofs.PassedLaws.{entries-count}
 use Rattle.construct.specs.Construct.{bucketsOf, attemptOf}
 use Rattle.construct.specs.Keys.{keyOf, hashesOf, attemptHashes}
 use Rattle.construct.proofs.Figures.{one-key}
 use Rattle.point.specs.declared.Answer.the-variants.{Found, Nothing}
 use Rattle.point.specs.Get.{getOf, answerNumber}
-use Rattle.point.specs.Table.{OneBelow, Belongs, answerTo}
+use Rattle.point.specs.Layout.{keysIn, arenaIn}
+use Rattle.point.specs.Table.{tableOf, OneBelow, Belongs, answerTo}
+use Rattle.point.specs.declared.Validated.the-variants.{Accepted}
+use Rattle.point.specs.Validate.{validateOf}
+use Rattle.point.proofs.SlotLaws.{slot-owner, owner-slot}
 use Rattle.finish.specs.declared.Finished.{Finished}
 use Rattle.finish.specs.declared.Finished.the-variants.{Body, Refused}
 use Rattle.finish.specs.Body.{arenaStart, bodyOf}
 use Rattle.finish.specs.Finish.{walked, keysOf, lengthsRefusal, finishRefusal, answered, bodyLength, finishOf, outAfter, FinishPost, finishedNumber}
 use Rattle.finish.proofs.LengthLaws.{length-fits}
 use Rattle.finish.proofs.Answers.{finish-number, ten-fails, body-or-ten}
-use Rattle.finish.proofs.Accepted.{finish-length, finish-get}
+use Rattle.finish.proofs.Accepted.{finish-accepted, finish-table, finish-length, finish-get}
 
 -- ---- the two lists
 
@@ -193,6 +198,32 @@ module _ {o w u o' w' u' : List ℕ} {k : ℕ} (lent : length o < 2 ^ 64) (P : F
     output-get two-bytes lent P twoTable two-entries 16 two-inside (66 ∷ []),
   )
 
-  -- THEOREM: an index that places only its first key is shut out
+  two-accepted : validateOf (take k o') 16 ≡ Accepted
+  two-accepted =
+      ap (λ (b : List ℕ). validateOf b 16) (output-body two-bytes lent P)
+      ∙ finish-accepted twoArena (length o) (length w) (length u) k two-bytes lent (sym (P .answer)) 16 (subst (TableInData 16) (sym two-entries) two-inside)
+
+  two-keys : keysIn (take k o') ≡ 2
+  unfolding tableOf twoTable
+  two-keys =
+      sym (entries-count (take k o') (arenaIn (take k o')) (keysIn (take k o')))
+      ∙ ap length
+      (ap tableOf (output-body two-bytes lent P) ∙ finish-table twoArena (length o) (length w) (length u) k two-bytes lent (sym (P .answer)) ∙ two-entries)
+
+  -- THEOREM: each of its two slots belongs to exactly one of the two keys
+  pub slots-owned : (s : ℕ) → s < 2 → OneBelow 2 (Belongs (take k o') s)
+  slots-owned s l =
+      subst (λ (n : ℕ). OneBelow n (Belongs (take k o') s)) two-keys (slot-owner (take k o') 16 two-accepted s (subst (λ (n : ℕ). s < n) (sym two-keys) l))
+
+  -- THEOREM: and each of the two keys has exactly one slot
+  pub keys-placed : (i : ℕ) → i < 2 → OneBelow 2 (λ s. Belongs (take k o') s i)
+  keys-placed i l =
+      subst (λ (n : ℕ). OneBelow n (λ s. Belongs (take k o') s i)) two-keys (owner-slot (take k o') 16 two-accepted i (subst (λ (n : ℕ). i < n) (sym two-keys) l))
+
+  -- THEOREM: an index that places only its first key is shut out: its second key would have no slot
+  pub never-unplaced : ((s : ℕ) → s < 2 → Belongs (take k o') s 1 → ⊥) → ⊥
+  never-unplaced f = let p = keys-placed 1 (omega arith) in f (p .number) (p .low) (p .has)
+
+  -- THEOREM: and get would miss it
   pub never-first-only : getOf (take k o') 16 (66 ∷ []) None ≡ Nothing → ⊥
   never-first-only e = omega (arith, ap answerNumber (sym (both-found .1) ∙ e))
