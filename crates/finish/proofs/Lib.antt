@@ -8,4 +8,3 @@ pub mod Answers
 pub mod ShiftLaws
 pub mod FieldLaws
 pub mod Accepted
-pub mod Figures

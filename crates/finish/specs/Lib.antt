@@ -1,4 +1,3 @@
 pub mod Body
 pub mod Finish
 pub mod Needs
-pub mod Example
