@@ -4,6 +4,7 @@ mod finish;
 mod get;
 mod hash;
 mod mix;
+mod sort;
 mod validate;
 
 use oracle::Rng;
@@ -42,6 +43,10 @@ pub const ALL: &[Entry] = &[
     entry::<get::Hit>(),
     entry::<get::Miss>(),
     entry::<filter::Ask>(),
+    entry::<sort::Random>(),
+    entry::<sort::Rising>(),
+    entry::<sort::Falling>(),
+    entry::<sort::Equal>(),
 ];
 
 /// Records of so many keys of 16 bytes, one version of 8 bytes each.

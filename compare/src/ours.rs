@@ -3,6 +3,7 @@ mod c {
     unsafe extern "C" {
         pub safe fn kiban_mix(h: u64) -> u64;
         pub fn kiban_hash(key: *const u8, n: usize, seed: u64) -> u64;
+        pub fn kiban_sort(hashes: *mut u64, n: usize) -> u64;
         pub fn kiban_add(
             buffer: *mut u8,
             buffer_n: usize,
@@ -76,6 +77,9 @@ pub fn mix(h: u64) -> u64 {
 }
 pub fn hash(key: &[u8], seed: u64) -> u64 {
     unsafe { c::kiban_hash(key.as_ptr(), key.len(), seed) }
+}
+pub fn sort(hashes: &mut [u64]) -> u64 {
+    unsafe { c::kiban_sort(hashes.as_mut_ptr(), hashes.len()) }
 }
 #[allow(clippy::too_many_arguments)]
 pub fn add(

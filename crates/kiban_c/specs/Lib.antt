@@ -4,3 +4,4 @@ pub mod Finishing
 pub mod Lent
 pub mod Reading
 pub mod Listing
+pub mod Sorting

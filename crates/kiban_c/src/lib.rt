@@ -5,3 +5,4 @@ pub mod finishing;
 pub mod listing;
 pub mod mixing_calls;
 pub mod reading;
+pub mod sorting;

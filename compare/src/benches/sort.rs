@@ -1,0 +1,67 @@
+//! Sorting hashes, against `sort_unstable`: random, rising, falling, equal.
+use super::Bench;
+use crate::ours;
+use oracle::Rng;
+
+pub struct Input {
+    from: Vec<u64>,
+    hashes: Vec<u64>,
+}
+
+/// The hashes to sort, by their order.
+trait Order {
+    const NAME: &'static str;
+    fn of(random: Vec<u64>) -> Vec<u64>;
+}
+pub struct Random;
+pub struct Rising;
+pub struct Falling;
+pub struct Equal;
+impl Order for Random {
+    const NAME: &'static str = "sort, random";
+    fn of(random: Vec<u64>) -> Vec<u64> {
+        random
+    }
+}
+impl Order for Rising {
+    const NAME: &'static str = "sort, rising";
+    fn of(mut random: Vec<u64>) -> Vec<u64> {
+        random.sort_unstable();
+        random
+    }
+}
+impl Order for Falling {
+    const NAME: &'static str = "sort, falling";
+    fn of(random: Vec<u64>) -> Vec<u64> {
+        let mut sorted = Rising::of(random);
+        sorted.reverse();
+        sorted
+    }
+}
+impl Order for Equal {
+    const NAME: &'static str = "sort, equal";
+    fn of(random: Vec<u64>) -> Vec<u64> {
+        vec![random[0]; random.len()]
+    }
+}
+
+impl<O: Order> Bench for O {
+    type Input = Input;
+    const NAME: &'static str = O::NAME;
+    const SIZES: &'static [usize] = &[1_000, 65_536, 1_500_000];
+    const REPEATS: bool = false;
+    fn input(size: usize) -> Input {
+        let mut r = Rng(size as u64);
+        let from = O::of((0..size).map(|_| r.next()).collect());
+        Input { hashes: from.clone(), from }
+    }
+    fn prepare(input: &mut Input) {
+        input.hashes.copy_from_slice(&input.from);
+    }
+    fn ours(input: &mut Input) {
+        ours::sort(&mut input.hashes);
+    }
+    fn theirs(input: &mut Input) {
+        input.hashes.sort_unstable();
+    }
+}
