@@ -216,17 +216,31 @@ fn put_reversed(out: &mut [u8], at: usize, v: u64)
     field::put_u32(out, at + 4, reversed((v % 4_294_967_296) as u32));
 }
 
-// Writes entry i at `at`: a key of 8 bytes, one put of sequence i + 1, length 8, offset 8i.
+// Writes the kind of a put at `at`.
+fn put_kind(out: &mut [u8], at: usize)
+    requires { ⌜ at + 1 ≤ length (now out) ⌝ }
+{
+    out[at] = 1;
+}
+
+// Writes the version of entry i at `at`: one put of sequence i + 1, length 8, offset 8i.
+fn put_version(out: &mut [u8], at: usize, i: u64)
+    requires { ⌜ at + 21 ≤ length (now out) ⌝ }
+{
+    field::put_u64(out, at, std::num::wrapping_add_u64(i, 1));
+    field::put_u32(out, at + 9, 8);
+    field::put_u64(out, at + 13, words::wide::wrapping_mul(8, i));
+    put_kind(out, at + 8);
+}
+
+// Writes entry i at `at`: a key of 8 bytes, and one version.
 fn put_entry(out: &mut [u8], at: usize, seed: u64, i: u64)
     requires { ⌜ at + 37 ≤ length (now out) ⌝ }
 {
     field::put_u32(out, at, 8);
     field::put_u32(out, at + 4, 1);
     put_reversed(out, at + 8, key_of(seed, i));
-    field::put_u64(out, at + 16, std::num::wrapping_add_u64(i, 1));
-    out[at + 24] = 1;
-    field::put_u32(out, at + 25, 8);
-    field::put_u64(out, at + 29, words::wide::wrapping_mul(8, i));
+    put_version(out, at + 16, i);
 }
 
 // Writes n entries.
@@ -291,6 +305,14 @@ fn made_into(arena: &[u8], p: &[u8]) -> bool {
     made_run(arena, &mut out, p)
 }
 
+// Finish of the first bytes made.
+fn made_front(made: &[u8], size: usize, p: &[u8]) -> bool {
+    if made.len() < size {
+        return false;
+    }
+    made_into(&made[..size], p)
+}
+
 // 19: u64 seed, u32 n -> u8 number, u64 body length, u64 digest, u64 the body's seed.
 fn made_agrees(p: &[u8], n: usize) -> bool {
     if 65537 < n {
@@ -299,7 +321,7 @@ fn made_agrees(p: &[u8], n: usize) -> bool {
     let size = 37 * n;
     let mut arena = arena_room();
     put_entries(&mut arena, vectors::u64_in(p, 0), n);
-    made_into(&arena[..size], p)
+    made_front(&arena, size, p)
 }
 
 // Whether finish takes a made arena of n keys, and there is no room for it.

@@ -14,8 +14,8 @@ returns c = search needs
 
 slice-aggregate-figures-agree : tie.Need-slice-aggregate-figures-agree
 slice-aggregate-figures-agree c =
-    let n : ℕ = c .before .before .before .args .size in
-    let l : List ℕ = c .before .before .before .args .out .now in
+    let n : ℕ = c .before .before .before .before .args .size in
+    let l : List ℕ = c .before .before .before .before .args .out .now in
     let h : n ≤ length l = omega arith in
     sym (length-take-le n l h)
 
