@@ -41,6 +41,7 @@ pub const ALL: &[Entry] = &[
     entry::<validate::Validate>(),
     entry::<get::Hit>(),
     entry::<get::Miss>(),
+    entry::<filter::Build>(),
     entry::<filter::Ask>(),
 ];
 
