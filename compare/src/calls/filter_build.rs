@@ -44,6 +44,7 @@ impl Call for FilterBuild {
     const ONE_IN: u64 = 50;
     const MET: &'static [u64] = &[0, 6, 9, 12];
 
+    /// No hash, few, as many as there may be, one more; lengths one short; equal hashes; both ends of every row of the sizes.
     fn fixed() -> Vec<Case> {
         let made = |n: u64| (0..n).map(|i| paper::mix(i.wrapping_mul(paper::STEP))).collect::<Vec<u64>>();
         let fit = |h: Vec<u64>| Case { wide: 150_000, narrow: 250_000, out: 80_000, answers: 1, hashes: h };
@@ -51,7 +52,9 @@ impl Call for FilterBuild {
         let sizes = [0, 1, 2, 3, 4, 5, 65_536, 65_537].map(|n| fit(made(n)));
         let short = [short(15, 29, 62), short(14, 29, 62), short(15, 28, 62), short(15, 29, 61)];
         let none = [48, 47].map(|out| Case { wide: 0, narrow: 0, out, answers: 1, hashes: Vec::new() });
-        sizes.into_iter().chain(short).chain(none).chain([fit(vec![0, 0])]).collect()
+        let rows = (5..65_536).filter(|&n| paper::sizing(n) != paper::sizing(n + 1));
+        let ends = rows.flat_map(|n| [n, n + 1]).map(|n| fit(made(n)));
+        sizes.into_iter().chain(short).chain(none).chain([fit(vec![0, 0])]).chain(ends).collect()
     }
     fn draw(r: &mut Rng) -> Case {
         let hashes = drawn::hashes(r);
