@@ -42,6 +42,7 @@ pub const ALL: &[Entry] = &[
     entry::<validate::Validate>(),
     entry::<get::Hit>(),
     entry::<get::Miss>(),
+    entry::<filter::Build>(),
     entry::<filter::Ask>(),
     entry::<sort::Random>(),
     entry::<sort::Rising>(),

@@ -1,6 +1,7 @@
 //! The calls that are compared: one file each, one line of `ALL` each.
 mod add;
 mod drawn;
+mod filter_build;
 mod filter_read;
 mod finish;
 mod get;
@@ -56,6 +57,7 @@ pub const ALL: &[Entry] = &[
     entry::<finish::Finish>(),
     entry::<validate::Validate>(),
     entry::<get::Get>(),
+    entry::<filter_build::FilterBuild>(),
     entry::<filter_read::FilterRead>(),
     entry::<listing::Listing>(),
 ];

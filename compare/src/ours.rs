@@ -51,6 +51,18 @@ mod c {
             answer: *mut u64,
             answer_n: usize,
         ) -> u64;
+        pub fn kiban_filter_build(
+            hashes: *mut u64,
+            hashes_n: usize,
+            wide: *mut u64,
+            wide_n: usize,
+            narrow: *mut u32,
+            narrow_n: usize,
+            out: *mut u8,
+            out_n: usize,
+            answer: *mut u64,
+            answer_n: usize,
+        ) -> u64;
         pub fn kiban_filter_read(bytes: *const u8, n: usize, answer: *mut u64, answer_n: usize) -> u64;
         pub fn kiban_filter_ask(bytes: *const u8, n: usize, hash: u64) -> u64;
         pub fn kiban_filter_ask_all(
@@ -143,6 +155,28 @@ pub fn get(body: &[u8], data: &[u8], key: &[u8], limit: Option<u64>, answer: &mu
             key.len(),
             limited,
             limit,
+            answer.as_mut_ptr(),
+            answer.len(),
+        )
+    }
+}
+pub fn filter_build(
+    hashes: &mut [u64],
+    wide: &mut [u64],
+    narrow: &mut [u32],
+    out: &mut [u8],
+    answer: &mut [u64],
+) -> u64 {
+    unsafe {
+        c::kiban_filter_build(
+            hashes.as_mut_ptr(),
+            hashes.len(),
+            wide.as_mut_ptr(),
+            wide.len(),
+            narrow.as_mut_ptr(),
+            narrow.len(),
+            out.as_mut_ptr(),
+            out.len(),
             answer.as_mut_ptr(),
             answer.len(),
         )

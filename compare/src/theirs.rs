@@ -119,6 +119,30 @@ pub fn get(body: &[u8], length: u64, key: &[u8], limit: Option<u64>, answers: us
         paper::Answer::Found { kind, seq, offset, length } => Ok([kind as u64, seq, offset, length]),
     }
 }
+/// The Rust's filter; the hashes are sorted unless it is refused.
+pub fn filter_build(
+    hashes: &mut [u64],
+    out: usize,
+    wide: usize,
+    narrow: usize,
+    answers: usize,
+) -> Result<Vec<u8>, u64> {
+    if answers < 1 {
+        return Err(6);
+    }
+    let n = hashes.len();
+    if n > 65_536 {
+        return Err(12);
+    }
+    let cells = if n == 0 { 0 } else { paper::sizing(n as u64).2 as usize };
+    if wide < cells + n || narrow < 2 * cells + n {
+        return Err(9);
+    }
+    if out < 48 + cells {
+        return Err(6);
+    }
+    Ok(rf::Filter::build(hashes).encode())
+}
 pub fn filter_accepted(bytes: &[u8]) -> bool {
     rf::Filter::decode(bytes).is_some()
 }

@@ -1,9 +1,47 @@
-//! kiban_filter_ask_all on the hashes of the filter.
+//! kiban_filter_build from hashes in no order, and kiban_filter_ask_all on the hashes of the filter.
 use super::Bench;
 use crate::ours;
-use oracle::{Rng, rf};
+use oracle::{Rng, paper, rf};
 
+pub struct Build;
 pub struct Ask;
+
+pub struct Input {
+    drawn: Vec<u64>,
+    hashes: Vec<u64>,
+    wide: Vec<u64>,
+    narrow: Vec<u32>,
+    out: Vec<u8>,
+}
+
+impl Bench for Build {
+    type Input = Input;
+    const NAME: &'static str = "kiban_filter_build";
+    const SIZES: &'static [usize] = &[1_000, 10_000, 65_536];
+    const REPEATS: bool = false;
+
+    fn input(size: usize) -> Input {
+        let mut r = Rng(size as u64);
+        let drawn: Vec<u64> = (0..size).map(|_| r.next()).collect();
+        let c = paper::sizing(size as u64).2 as usize;
+        Input {
+            hashes: drawn.clone(),
+            drawn,
+            wide: vec![0; c + size],
+            narrow: vec![0; 2 * c + size],
+            out: vec![0; 48 + c],
+        }
+    }
+    fn prepare(i: &mut Input) {
+        i.hashes.copy_from_slice(&i.drawn);
+    }
+    fn ours(i: &mut Input) {
+        assert!(ours::filter_build(&mut i.hashes, &mut i.wide, &mut i.narrow, &mut i.out, &mut [0]) == 0);
+    }
+    fn theirs(i: &mut Input) {
+        std::hint::black_box(rf::Filter::build(&mut i.hashes));
+    }
+}
 
 pub struct Asked {
     hashes: Vec<u64>,
@@ -15,7 +53,7 @@ pub struct Asked {
 impl Bench for Ask {
     type Input = Asked;
     const NAME: &'static str = "kiban_filter_ask_all";
-    const SIZES: &'static [usize] = &[1_000, 65_536];
+    const SIZES: &'static [usize] = &[1_000, 10_000, 65_536];
 
     fn input(size: usize) -> Asked {
         let mut r = Rng(size as u64);

@@ -1,4 +1,5 @@
 pub mod BuildLaws
+pub mod FilterBuildingLaws
 pub mod FilterCallLaws
 pub mod FinishingLaws
 mod ListingLaws

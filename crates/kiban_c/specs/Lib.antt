@@ -1,4 +1,5 @@
 pub mod Build
+pub mod FilterBuilding
 pub mod FilterCalls
 pub mod Finishing
 pub mod Lent
