@@ -156,8 +156,36 @@ pub fn filter_fields(bytes: &[u8]) -> [u64; 6] {
 pub fn filter_ask(bytes: &[u8], hash: u64) -> u64 {
     rf::Filter::decode(bytes).map_or(15, |f| f.maybe(hash) as u64)
 }
-/// The paper's text: the Rust has no listing.
+/// The listing, rendered from the Rust's answers: its validation, and its get of each key with no limit and with the limit.
+/// The paper's where the data is longer than a slice that can be lent here.
 pub fn listing(input: &[u8], out: usize, answers: usize) -> Result<String, u64> {
-    let text = paper::listing(input);
+    let text = if (16..=65_536).contains(&input.len()) && word(input, 8) <= 1 << 24 {
+        rendered(word(input, 0), word(input, 8), &input[16..])
+    } else {
+        paper::listing(input)
+    };
     if answers < 1 || out < text.len() { Err(6) } else { Ok(text) }
+}
+fn word(bytes: &[u8], at: usize) -> u64 {
+    u64::from_le_bytes(bytes[at..at + 8].try_into().expect("eight bytes"))
+}
+fn rendered(limit: u64, data: u64, body: &[u8]) -> String {
+    let number = validate(body, data);
+    if number != 0 {
+        return format!("refused {number}\n");
+    }
+    let arena = &body[word(body, 24) as usize..];
+    let heads = paper::walk(arena, 0, None, None, &mut |_, _| true).expect("accepted").0;
+    let keys = heads.len();
+    let line = |head| {
+        let key = paper::key_at(arena, head);
+        let [newest, ..] = get(body, data, key, None, 4).expect("a key of the body");
+        let [kind, sequence, offset, length] = get(body, data, key, Some(limit), 4).ok()?;
+        let hex: String = key.iter().map(|b| format!("{b:02x}")).collect();
+        let name = if key.is_empty() { "-" } else { &hex };
+        let kind = if kind == 1 { "put" } else { "tomb" };
+        (newest == 1).then(|| format!("{name} {sequence} {kind} {offset} {length}\n"))
+    };
+    let lines: Vec<String> = heads.into_iter().filter_map(line).collect();
+    format!("limit {limit} keys {keys} shown {}\n{}", lines.len(), lines.concat())
 }

@@ -1,4 +1,4 @@
-//! kiban_listing: the paper's text (the Rust has no listing).
+//! kiban_listing: against a text rendered from the Rust's answers (the Rust has no listing).
 use super::{Call, drawn};
 use crate::{ours, theirs};
 use oracle::{Rng, paper};
@@ -28,7 +28,7 @@ impl Call for Listing {
     type Case = Case;
     type Answer = Answer;
     const NAME: &'static str = "kiban_listing";
-    const ONE_IN: u64 = 20;
+    const ONE_IN: u64 = 60;
     const MET: &'static [u64] = &[0, 6, 16, 20, 21, 22, 23, 24, 25, 26, 27, 28, 29, 30];
 
     fn fixed() -> Vec<Case> {
