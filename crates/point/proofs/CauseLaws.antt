@@ -6,7 +6,7 @@ use mathlib.Core.List.{List}
 use mathlib.Core.Bool.{Bool, true, false, cond, true≢false}
 use lib.Dec.{ltb, leb, eqb}
 use lib.ListN.{length}
-use borrow.Author.Tests.{ltb-true, ltb-false, eqb-true, eqb-false, lt-ltb, le-ltb, eq-eqb, ne-eqb}
+use borrow.Author.Tests.{ltb-true, ltb-false, eqb-true, eqb-false, lt-ltb, le-ltb, eq-eqb}
 use Rattle.laws.specs.Refusals.{First, None, orElse, first-given, first-only, none-given, none-only}
 use Rattle.laws.specs.Refusals.Numbered.{numbered-none, numbered-more}
 use Rattle.laws.specs.RefusalLaws.{FirstOfTwo, two-given, two-only}
@@ -16,7 +16,6 @@ use Rattle.mixing.specs.Mixing.{hashOf, fingerprintOf}
 use Rattle.records.specs.declared.DataLength.the-variants.{Of}
 use Rattle.records.specs.declared.Limit.{Limit}
 use Rattle.records.specs.declared.Limit.the-variants.{None as Unlimited, UpTo}
-use Rattle.records.specs.declared.Record.{Record}
 use Rattle.records.specs.declared.Within.{Within}
 use Rattle.records.specs.declared.Within.the-variants as within
 use Rattle.records.specs.Model.{within as holds}
@@ -32,7 +31,7 @@ use Rattle.point.specs.declared.Opened.{Opened}
 use Rattle.point.specs.declared.Opened.the-variants as opened
 use Rattle.point.specs.declared.Answer.the-variants.{Found, Nothing, Refused}
 use Rattle.point.specs.Layout.{seedIn, keysIn, bucketsIn, arenaIn, magicCauses, magicRefusal, dimensionCauses, dimensionRefusal, headerRefusal, pilotAt, pilotOf, directPast, slotPlace, recordOffset, fingerprintLow}
-use Rattle.point.specs.Validate.{pilotsRefusal, slotCauses, slotTest, slotRefusal, arenaRefusal, validationRefusal, validateOf, verdict, Checked}
+use Rattle.point.specs.Validate.{pilotsRefusal, slotCauses, slotTest, slotRefusal, arenaRefusal, validationRefusal, validateOf, verdict}
 use Rattle.point.specs.Get.{locateHash, locateOf, openRecordOf, openAt, openOf, firstOfAll, firstFor, answerOf, getOf}
 use Rattle.point.specs.Table.{keySlot}
 use Rattle.point.proofs.GetLaws.{locate-refused, record-short, record-cut, answer-past}

@@ -1,12 +1,12 @@
 -- Demand 1: what meets a call's contract and is a refusal has the number whose cause is the first that holds, and nothing lent is changed
 -- but the zeroed workspace; and where a cause is the first that holds, the call refuses with its number. Assumes nothing.
-use Prim.Native.Nat.{ℕ, _+_, _<_, _≤_}
+use Prim.Native.Nat.{ℕ, _+_, _<_}
 use mathlib.Core.Path.{_≡_, refl, sym, ap, _∙_}
 use mathlib.Core.Bool.{Bool, true, false, cond}
 use mathlib.Core.List.{List}
 use native.Mathlib.Omega.{arith}
-use borrow.Author.Tests.{ltb-true, ltb-false, leb-true, leb-false, lt-ltb, lt-leb, eq-eqb, ne-eqb}
-use lib.Dec.{ltb, leb, eqb}
+use borrow.Author.Tests.{ltb-true, leb-false, lt-ltb, lt-leb, eq-eqb, ne-eqb}
+use lib.Dec.{ltb, leb}
 use lib.ListN.{length, replicate}
 use Rattle.laws.specs.Refusals.{First}
 use Rattle.words.proofs.Laws.{AllBytes}
@@ -22,8 +22,7 @@ use Rattle.builder.specs.Add.{addCauses, AddPost}
 use Rattle.builder.specs.SetOffset.{setCauses, SetPost}
 use Rattle.builder.proofs.Answers.{add-refuses, add-refuses-only, set-refuses, set-refuses-only}
 use Rattle.finish.specs.declared.Finished.{Finished}
-use Rattle.finish.specs.declared.Finished.the-variants as finished
-use Rattle.finish.specs.Finish.{lengthsRefusal, finishCauses, finishRefusal, finishOf, finishedNumber, outAfter, spaceAfter, FinishPost}
+use Rattle.finish.specs.Finish.{lengthsRefusal, finishCauses, finishRefusal, finishedNumber, outAfter, spaceAfter, FinishPost}
 use Rattle.finish.proofs.Answers.{finish-number, cause-first, cause-given}
 use Rattle.point.specs.declared.Validated.the-variants as validated
 use Rattle.point.specs.declared.Answer.the-variants as answer
