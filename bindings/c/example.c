@@ -7,7 +7,7 @@
 #include <stdio.h>
 #include <string.h>
 
-enum { KEYS = 3, RECORDS = 5, ARENA = 132, BODY = 204, DATA = 116, CELLS = 3 + 256 };
+enum { KEYS = 3, RECORDS = 5, ARENA = 132, BODY = 204, DATA = 116, CELLS = 3 + 256, MOST = 65536 };
 
 struct record {
     const char *key;
@@ -116,6 +116,18 @@ static uint64_t build_filter(uint64_t *hashes, uint8_t *out)
     return length;
 }
 
+/* The header's lengths suffice for every count of hashes: workspace is tested before output, of which none is lent. */
+static void filter_room(void)
+{
+    static uint64_t hashes[MOST], wide[3 * MOST];
+    static uint32_t narrow[4 * MOST];
+    uint64_t answer = 0;
+    size_t n;
+    for (n = 1; n <= MOST; n++)
+        expect("room", kiban_filter_build(hashes, n, wide, kiban_filter_wide(n), narrow, kiban_filter_narrow(n), NULL, 0,
+                                          &answer, 1), KIBAN_REFUSED_BUFFER);
+}
+
 /* Reads and asks the filter: no key is absent, D is. */
 static void filter(void)
 {
@@ -216,6 +228,7 @@ int main(void)
     look_up(body, data, "B", 0, 0, &records[2]);
     look_up(body, data, "", 0, 0, NULL);
     filter();
+    filter_room();
     listing(body);
     all_empty();
     some_empty();

@@ -26,6 +26,11 @@ fn cells_at_most(n: usize) -> usize {
     if n == 0 { 0 } else { n + n / 4 + 256 }
 }
 
+/// The answer of a call on bytes that were built or accepted.
+fn accepted<T>(answer: Result<T, Refusal>) -> T {
+    answer.expect("proved: bytes that were built or accepted are read")
+}
+
 impl SstFilter {
     /// Builds the filter of hashes, which are left sorted unless it refuses.
     pub fn build(hashes: &mut [u64]) -> Result<Self, Refusal> {
@@ -51,25 +56,20 @@ impl SstFilter {
 
     /// The sizes of a Fuse filter; none of a Positive one, which calls nothing absent.
     pub fn sizes(&self) -> Option<Sizes> {
-        let [form, keys, seed, segment, count, cells] = self.read(sys::filter_read(&self.bytes));
+        let [form, keys, seed, segment, count, cells] = accepted(sys::filter_read(&self.bytes));
         (form == 1).then_some(Sizes { keys, seed, segment, count, cells })
     }
 
     /// Whether a hash may be among those that the filter was built from: false means that it is not.
     pub fn may_contain_hash(&self, hash: u64) -> bool {
-        self.read(sys::filter_ask(&self.bytes, hash))
+        accepted(sys::filter_ask(&self.bytes, hash))
     }
 
     /// The same for each of the hashes; the header is read once.
     pub fn may_contain_hashes(&self, hashes: &[u64]) -> Vec<bool> {
         let mut answers = vec![0; hashes.len()];
-        self.read(sys::filter_ask_all(&self.bytes, hashes, &mut answers));
+        accepted(sys::filter_ask_all(&self.bytes, hashes, &mut answers));
         answers.iter().map(|&answer| answer == 1).collect()
-    }
-
-    /// The answer of a call on the filter's own bytes.
-    fn read<T>(&self, answer: Result<T, Refusal>) -> T {
-        answer.expect("proved: bytes that were built or accepted are read")
     }
 }
 

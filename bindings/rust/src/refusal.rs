@@ -16,7 +16,7 @@ impl Refusal {
                 "new key not greater than the last; continued key absent or unequal to the last; \
                  sequence not below the last one of that key"
             }
-            5 => "a 65,537th key, or a version beyond 4,294,967,295; to finish: no key, or more than 65,536",
+            5 => "add: a 65,537th key, or a version beyond 4,294,967,295; finish: no key, or more than 65,536",
             6 => "buffer too short",
             7 => "place is not used - 8, or nothing added",
             8 => "arena breaks a key or version rule (23 to 25, 27 to 29 without the data test)",
@@ -37,11 +37,11 @@ impl Refusal {
             20 => "body under 32 bytes or wrong magic",
             21 => "dimensions (n from 1 to 2^31 - 1, b, arena start, arena start below the body's length)",
             22 => "a direct pilot at or past n",
-            23 => "under 8 bytes left",
+            23 => "under 8 bytes left for a key's head",
             24 => "key length over the limit or past the end, or no versions",
             25 => "keys not strictly rising",
             26 => "slot offset or fingerprint wrong",
-            27 => "under 21 bytes left",
+            27 => "under 21 bytes left for a version",
             28 => "kind",
             29 => {
                 "value length, offset + length past the data, tombstone with length, \

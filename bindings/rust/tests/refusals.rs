@@ -31,6 +31,20 @@ fn shown_with_number_and_cause() {
 }
 
 #[test]
+fn causes_are_those_of_the_c_header() {
+    let header = include_str!("../../c/kiban.h");
+    let mut listed = 0;
+    for entry in header.split("KIBAN_REFUSED_").skip(1) {
+        let (number, comment) = entry.split_once("= ").and_then(|(_, after)| after.split_once("/* ")).unwrap();
+        let number = number.trim_end().trim_end_matches(',').parse().unwrap();
+        let cause = comment.split_whitespace().collect::<Vec<_>>().join(" ");
+        assert!(cause.starts_with(Refusal(number).cause()), "{number}: {cause}");
+        listed += 1;
+    }
+    assert_eq!(listed, 26);
+}
+
+#[test]
 fn every_listed_number_has_a_cause_of_its_own() {
     let listed: Vec<u64> = (1..=12).chain(14..=16).chain(20..=30).collect();
     let causes: std::collections::HashSet<_> = listed.iter().map(|&n| Refusal(n).cause()).collect();
