@@ -1,5 +1,5 @@
 //! The Fuse8 filter of hashes: built, read, asked.
-use crate::{Refusal, sys};
+use crate::{Refusal, calls};
 
 /// The bytes in front of the cells.
 const HEADER: usize = 48;
@@ -38,14 +38,14 @@ impl SstFilter {
         let cells = cells_at_most(n);
         let (mut wide, mut narrow) = (vec![0; cells + n], vec![0; 2 * cells + n]);
         let mut bytes = vec![0; HEADER + cells];
-        let written = sys::filter_build(hashes, &mut wide, &mut narrow, &mut bytes)?;
+        let written = calls::filter_build(hashes, &mut wide, &mut narrow, &mut bytes)?;
         bytes.truncate(written as usize);
         Ok(Self { bytes })
     }
 
     /// Takes a filter's bytes, as [`Self::encode`] gave them.
     pub fn decode(bytes: &[u8]) -> Result<Self, Refusal> {
-        sys::filter_read(bytes)?;
+        calls::filter_read(bytes)?;
         Ok(Self { bytes: bytes.to_vec() })
     }
 
@@ -56,19 +56,19 @@ impl SstFilter {
 
     /// The sizes of a Fuse filter; none of a Positive one, which calls nothing absent.
     pub fn sizes(&self) -> Option<Sizes> {
-        let [form, keys, seed, segment, count, cells] = accepted(sys::filter_read(&self.bytes));
+        let [form, keys, seed, segment, count, cells] = accepted(calls::filter_read(&self.bytes));
         (form == 1).then_some(Sizes { keys, seed, segment, count, cells })
     }
 
     /// Whether a hash may be among those that the filter was built from: false means that it is not.
     pub fn may_contain_hash(&self, hash: u64) -> bool {
-        accepted(sys::filter_ask(&self.bytes, hash))
+        accepted(calls::filter_ask(&self.bytes, hash))
     }
 
     /// The same for each of the hashes; the header is read once.
     pub fn may_contain_hashes(&self, hashes: &[u64]) -> Vec<bool> {
         let mut answers = vec![0; hashes.len()];
-        accepted(sys::filter_ask_all(&self.bytes, hashes, &mut answers));
+        accepted(calls::filter_ask_all(&self.bytes, hashes, &mut answers));
         answers.iter().map(|&answer| answer == 1).collect()
     }
 }
@@ -86,7 +86,7 @@ mod tests {
         for n in 1..=hashes.len() {
             let cells = cells_at_most(n);
             let refused =
-                sys::filter_build(&mut hashes[..n], &mut wide[..cells + n], &mut narrow[..2 * cells + n], &mut []);
+                calls::filter_build(&mut hashes[..n], &mut wide[..cells + n], &mut narrow[..2 * cells + n], &mut []);
             assert_eq!(refused, Err(Refusal(6)), "{n} hashes");
         }
     }

@@ -20,6 +20,7 @@
 //! ```
 #![deny(unsafe_code)]
 
+mod calls;
 mod filter;
 mod listing;
 mod point;

@@ -1,5 +1,5 @@
 //! The listing's text.
-use crate::sys;
+use crate::calls;
 
 /// The bytes that hold any listing.
 const MOST: usize = 131_072;
@@ -11,7 +11,7 @@ pub fn listing(limit: u64, data_length: u64, body: &[u8]) -> String {
     input.extend_from_slice(&data_length.to_le_bytes());
     input.extend_from_slice(body);
     let mut text = vec![0; MOST];
-    let written = sys::listing(&input, &mut text).expect("proved: any listing has room");
+    let written = calls::listing(&input, &mut text).expect("proved: any listing has room");
     text.truncate(written as usize);
     String::from_utf8(text).expect("a listing is ASCII")
 }

@@ -1,5 +1,5 @@
 //! The point index: built from records, validated, read.
-use crate::{Refusal, sys};
+use crate::{Refusal, calls};
 
 /// A record's kind.
 #[derive(Clone, Copy, Debug, PartialEq, Eq)]
@@ -59,18 +59,18 @@ impl PointBuilder {
     /// Adds a record with a value of `length` bytes: the place to hand to [`Self::set_value_offset`]; the offset is 0 till then.
     /// `new_key` is false for a further version of the last key. A refused record leaves the builder as it was.
     pub fn add(&mut self, kind: Kind, key: &[u8], length: u64, seq: u64, new_key: bool) -> Result<usize, Refusal> {
-        let record = sys::Added { kind: kind.to_u8(), key, length, sequence: seq, new_key };
-        let mut added = sys::add(&mut self.buffer, &mut self.state, &record);
+        let record = calls::Added { kind: kind.to_u8(), key, length, sequence: seq, new_key };
+        let mut added = calls::add(&mut self.buffer, &mut self.state, &record);
         if added == Err(Refusal(6)) {
             self.make_room(LEAST_ENTRY + key.len());
-            added = sys::add(&mut self.buffer, &mut self.state, &record);
+            added = calls::add(&mut self.buffer, &mut self.state, &record);
         }
         added.map(|place| place as usize)
     }
 
     /// Sets the value offset of the last record, at the place that [`Self::add`] gave for it.
     pub fn set_value_offset(&mut self, patch: usize, value_offset: u64) -> Result<(), Refusal> {
-        sys::set_offset(&mut self.buffer, &self.state, patch as u64, value_offset)
+        calls::set_offset(&mut self.buffer, &self.state, patch as u64, value_offset)
     }
 
     /// The body of the records added: an index without its five trailer bytes.
@@ -98,14 +98,14 @@ pub fn finish(arena: &[u8]) -> Result<Vec<u8>, Refusal> {
 fn finish_keys(arena: &[u8], n: usize) -> Result<Vec<u8>, Refusal> {
     let mut out = vec![0; 32 + 4 * n.div_ceil(3) + 12 * n + arena.len()];
     let (mut wide, mut narrow) = (vec![0; 2 * n], vec![0; 8 * n + 8]);
-    let written = sys::finish(arena, &mut out, &mut wide, &mut narrow)?;
+    let written = calls::finish(arena, &mut out, &mut wide, &mut narrow)?;
     out.truncate(written as usize);
     Ok(out)
 }
 
 /// Whether a body is an index for data of a length; for data that isn't in memory. [`LegacyIndex::decode`] does this first.
 pub fn validate(body: &[u8], data_length: u64) -> Result<(), Refusal> {
-    sys::validate(body, data_length)
+    calls::validate(body, data_length)
 }
 
 /// A key's record: its value is that part of the data.
@@ -119,7 +119,7 @@ pub struct Found<'d> {
 
 /// The key's record of greatest sequence within the limit, from a body that need not be validated: damage that it meets is 14.
 pub fn get<'d>(body: &[u8], data: &'d [u8], key: &[u8], limit: Option<u64>) -> Result<Option<Found<'d>>, Refusal> {
-    let Some([kind, seq, offset, length]) = sys::get(body, data, key, limit)? else {
+    let Some([kind, seq, offset, length]) = calls::get(body, data, key, limit)? else {
         return Ok(None);
     };
     let value = &data[offset as usize..(offset + length) as usize];
