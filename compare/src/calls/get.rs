@@ -26,6 +26,7 @@ impl Call for Get {
     const NAME: &'static str = "kiban_get";
     const ONE_IN: u64 = 10;
     const MET: &'static [u64] = &[0, 1, 6, 14];
+    const PLAIN: &'static [u64] = &[0, 1];
 
     fn fixed() -> Vec<Case> {
         let ask = |body: &[u8], key: &[u8], limit, answers| Case {
