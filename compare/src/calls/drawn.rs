@@ -85,9 +85,9 @@ thread_local! { static LAST: RefCell<Option<Made>> = const { RefCell::new(None) 
 pub fn forget() {
     LAST.set(None);
 }
-/// A body that finish made: a new one in one case of eight, else the last one again (making one takes most of a case's time).
+/// A body that finish made: a new one in one case of four, else the last one again (making one takes most of a case's time).
 pub fn body(r: &mut Rng) -> Made {
-    let again = r.below(8) > 0;
+    let again = r.below(4) > 0;
     if let Some(last) = LAST.with_borrow(|last| last.clone().filter(|_| again)) {
         return last;
     }

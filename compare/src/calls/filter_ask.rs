@@ -15,7 +15,7 @@ impl Call for FilterAsk {
     type Case = Case;
     type Answer = Vec<u64>;
     const NAME: &'static str = "kiban_filter_ask";
-    const ONE_IN: u64 = 20;
+    const ONE_IN: u64 = 4;
     const MET: &'static [u64] = &[0, 1, 15];
     const PLAIN: &'static [u64] = &[0, 1];
 

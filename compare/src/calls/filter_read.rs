@@ -21,7 +21,7 @@ impl Call for FilterRead {
     type Case = Case;
     type Answer = Answer;
     const NAME: &'static str = "kiban_filter_read";
-    const ONE_IN: u64 = 20;
+    const ONE_IN: u64 = 4;
     const MET: &'static [u64] = &[0, 6, 15];
 
     fn fixed() -> Vec<Case> {

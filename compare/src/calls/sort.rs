@@ -27,7 +27,7 @@ impl Call for Sort {
     type Case = Vec<u64>;
     type Answer = Answer;
     const NAME: &'static str = "kiban_sort";
-    const ONE_IN: u64 = 10;
+    const ONE_IN: u64 = 4;
     const MET: &'static [u64] = &[0];
 
     fn fixed() -> Vec<Vec<u64>> {

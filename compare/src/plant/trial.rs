@@ -11,19 +11,18 @@ fn tool(arguments: &[&str]) -> Option<Output> {
     Command::new(std::env::current_exe().ok()?).args(arguments).output().ok()
 }
 
-/// Runs the tool and takes its last line: the questions are the cases. It has to end with 0.
+/// Runs the tool on files; it has to end with 0 and to say that of its questions none differs.
 fn same(line: &mut Line, arguments: &[&str]) {
     let output = tool(arguments);
     let text = output.as_ref().map_or(String::new(), |o| String::from_utf8_lossy(&o.stdout).into_owned());
-    let last = text.lines().last().unwrap_or_default().split(' ').collect::<Vec<_>>();
-    let fine = output.is_some_and(|o| o.status.code() == Some(0));
-    if let [questions, "questions,", "0", "differ"] = last[..]
-        && fine
-    {
-        line.cases += questions.parse().unwrap_or(0);
-    } else {
-        line.count(false, || format!("compare {}: {text}", arguments.join(" ")));
-    }
+    let last: Vec<&str> = text.lines().last().unwrap_or_default().split(' ').collect();
+    let questions = match last[..] {
+        [questions, "questions,", "0", "differ"] => questions.parse().unwrap_or(0),
+        _ => 0,
+    };
+    *line.numbers.entry(0).or_insert(0) += questions;
+    let fine = questions > 0 && output.is_some_and(|o| o.status.code() == Some(0));
+    line.count(fine, || format!("compare {}: {text}", arguments.join(" ")));
 }
 
 /// The tool has to end with 2 and say why, and not by a panic.
@@ -120,5 +119,7 @@ pub fn check() -> Line {
         sample(line, &dir.join("large"), &[KEYS], 1);
         other_pilot(line, &dir.join("one"));
         refusals(line, &dir.join("small"));
+        let questions = line.numbers.remove(&0).unwrap_or(0);
+        line.notes.push(format!("a case is a run of the tool; {questions} questions in all"));
     })
 }
