@@ -9,6 +9,9 @@ const MOST_HASHES: usize = 65_536;
 
 /// A file's bytes, at least so many.
 pub fn read(path: &str, least: usize) -> Result<Vec<u8>, String> {
+    if path.is_empty() {
+        return Err("a file is not named".into());
+    }
     let mut bytes = Vec::new();
     let file = File::open(path).map_err(|e| format!("{path}: {e}"))?;
     file.take(MOST + 1).read_to_end(&mut bytes).map_err(|e| format!("{path}: {e}"))?;

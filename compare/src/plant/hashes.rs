@@ -27,7 +27,7 @@ fn sort(report: &mut Report, given: &[u64]) -> Vec<u64> {
     ours::sort(&mut ours);
     theirs.sort_unstable();
     report.ask(ours == theirs, || "sort: another order than the Rust's".into());
-    report.part("sort", "");
+    report.part("sort", "against sort_unstable");
     theirs
 }
 

@@ -14,8 +14,7 @@ pub fn run(index: &str, data: &str) -> Ended {
     let data: Arc<[u8]> = files::read(data, 0)?.into();
     let body = &file[..file.len() - TRAILER];
     println!("{index}: a body of {} bytes and its trailer; data of {} bytes", body.len(), data.len());
-    let said = rp::trailer_message(&file).map_or("accepts it".into(), |m| format!("says \"{m}\""));
-    println!("trailer: the Rust {said}; this code leaves it to the host");
+    trailer(&file);
     let mut report = Report::default();
     let sides = Sides::new(body, &data);
     validate(&mut report, &sides);
@@ -27,6 +26,17 @@ pub fn run(index: &str, data: &str) -> Ended {
     }
     listing(&mut report, &sides);
     Ok(report.end())
+}
+
+/// What the Rust says of the trailer, which this code leaves to the host; and of a form that is not carried over.
+fn trailer(file: &[u8]) {
+    match rp::trailer_message(file) {
+        None => println!("trailer: the Rust accepts it"),
+        Some(why) => println!("trailer: the Rust refuses it ({why}); below, the body stands before a right one"),
+    }
+    if file.starts_with(b"KIBANPH3") {
+        println!("KIBANPH3 is the compact form, which is not carried over (docs/DIFFERENCES.md)");
+    }
 }
 
 fn validate(report: &mut Report, sides: &Sides) {
@@ -70,7 +80,8 @@ fn finish(report: &mut Report, file: &Sides, arena: &[u8], all: &[keys::Key], da
     let made = match &ours {
         Err(number) => format!("refused with {number}"),
         Ok(body) if body == file.body => "the file's body again".into(),
-        Ok(_) => "another body than the file's: pilots and slots (docs/DIFFERENCES.md, 1)".into(),
+        Ok(_) if file.rust.number > 0 => "another body than the file's, which validation refuses".into(),
+        Ok(body) => format!("another body than the file's: {} (docs/DIFFERENCES.md, 1)", regions(body, file.body)),
     };
     report.part("fresh finish", &made);
     if let Ok(body) = ours
@@ -80,6 +91,18 @@ fn finish(report: &mut Report, file: &Sides, arena: &[u8], all: &[keys::Key], da
         lookups::compare_fresh(report, file, &Sides::new(&body, data), all);
         report.part("get on the fresh body", "the answers of the file's body");
     }
+}
+
+/// How many of the seed, the pilots and the slots are others in two accepted bodies of one arena.
+fn regions(fresh: &[u8], file: &[u8]) -> String {
+    let n = u32::from_le_bytes([fresh[16], fresh[17], fresh[18], fresh[19]]) as usize;
+    let slots = 32 + 4 * n.div_ceil(3);
+    let others = |range: std::ops::Range<usize>, width: usize| {
+        let pairs = fresh[range.clone()].chunks(width).zip(file[range].chunks(width));
+        pairs.filter(|(a, b)| a != b).count()
+    };
+    let (seed, pilots, slots) = (others(8..16, 8), others(32..slots, 4), others(slots..slots + 12 * n, 12));
+    format!("{pilots} other pilots, {slots} other slots, {} seed", if seed == 0 { "the same" } else { "another" })
 }
 
 /// Both results of finish: the numbers, or the first byte that differs.
