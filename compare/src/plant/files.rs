@@ -12,11 +12,16 @@ pub fn read(path: &str, least: usize) -> Result<Vec<u8>, String> {
     if path.is_empty() {
         return Err("a file is not named".into());
     }
+    let failed = |e: std::io::Error| format!("{path}: {e}");
+    let long = || format!("{path}: over {MOST} bytes, which is as much as this tool reads");
+    let file = File::open(path).map_err(failed)?;
+    if file.metadata().map_err(failed)?.len() > MOST {
+        return Err(long());
+    }
     let mut bytes = Vec::new();
-    let file = File::open(path).map_err(|e| format!("{path}: {e}"))?;
-    file.take(MOST + 1).read_to_end(&mut bytes).map_err(|e| format!("{path}: {e}"))?;
+    file.take(MOST + 1).read_to_end(&mut bytes).map_err(failed)?;
     if bytes.len() as u64 > MOST {
-        return Err(format!("{path}: over {MOST} bytes, which is as much as this tool reads"));
+        return Err(long());
     }
     if bytes.len() < least {
         return Err(format!("{path}: {} bytes, at least {least} are wanted", bytes.len()));
