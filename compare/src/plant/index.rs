@@ -78,7 +78,10 @@ fn finish(report: &mut Report, file: &Sides, arena: &[u8], all: &[keys::Key], da
     let (ours, theirs) = finished(arena);
     report.ask(ours == theirs, || differing(&ours, &theirs));
     let made = match &ours {
-        Err(number) => format!("refused with {number}"),
+        Err(10) => "refused with 10".into(),
+        Err(number) => {
+            format!("refused with {number}, which is document 01's: the Rust has no such check (docs/DIFFERENCES.md)")
+        }
         Ok(body) if body == file.body => "the file's body again".into(),
         Ok(_) if file.rust.number > 0 => "another body than the file's, which validation refuses".into(),
         Ok(body) => format!("another body than the file's: {} (docs/DIFFERENCES.md, 1)", regions(body, file.body)),
