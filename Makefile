@@ -5,13 +5,17 @@ DOCS_SRC ?= ../shared/docs/src
 CASES ?= 100000
 SEED ?= 1
 CALL ?=
+JOBS ?= 1
+INDEX ?=
+DATA ?=
+HASHES ?=
 
 ORACLE = sh compare/oracle/make-oracle.sh $(DOCS_SRC) target/oracle
 CARGO = cargo build --quiet --offline --locked --manifest-path compare/Cargo.toml --target-dir target/compare
 # Runs a command quietly; its output is shown where it fails.
 QUIET = mkdir -p target && quiet() { "$$@" > target/quiet.log 2>&1 || { cat target/quiet.log; exit 1; }; } && quiet
 
-.PHONY: test run bindings compare bench splits
+.PHONY: test run wrong bindings compare compare-tool compare-files compare-hashes bench splits
 test:
 	@awk '{ sub(/#.*/, ""); i = index($$0, ":") } i && $$1 != "mixing:" && (substr($$0, i + 1) " ") ~ /[ \t]mixrule[ \t]/ { print "crates.txt: only mixing may list mixrule: " $$0; bad = 1 } END { exit bad }' crates.txt
 	@sh scripts/test-listing-input
@@ -21,17 +25,29 @@ run:
 	@$(QUIET) rt check listing
 	@target/bin/listing < crates/listing/stdin
 
+wrong:
+	@sh scripts/try-wrong
+
 bindings:
 	@$(QUIET) rt staticlib kiban_c
 	@sh scripts/bindings
 
-# With CALL, that call alone.
-compare:
+compare-tool:
 	@$(QUIET) rt staticlib kiban_c
-	@$(if $(CALL),:,sh scripts/bindings)
 	@$(ORACLE)
 	@$(CARGO) --profile compare
-	@target/compare/compare/compare compare $(SEED) $(CASES) $(CALL)
+
+# With CALL, that call alone.
+compare: compare-tool
+	@$(if $(CALL),:,sh scripts/bindings)
+	@target/compare/compare/compare compare $(SEED) $(CASES) "$(CALL)" $(JOBS)
+
+# An index of the plant and its data, or hashes of it, on both sides.
+compare-files: compare-tool
+	@target/compare/compare/compare index "$(INDEX)" "$(DATA)"
+
+compare-hashes: compare-tool
+	@target/compare/compare/compare hashes "$(HASHES)"
 
 bench:
 	@$(QUIET) rt staticlib kiban_c
