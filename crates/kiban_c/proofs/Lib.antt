@@ -5,3 +5,4 @@ pub mod PointCallLaws
 pub mod FilterCallLaws
 pub mod LinesCallLaws
 pub mod UniqueLaws
+pub mod ExactLaws

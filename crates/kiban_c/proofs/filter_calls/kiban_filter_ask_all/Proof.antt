@@ -1,7 +1,7 @@
 -- `kiban_filter_ask_all` answers its own check, then reading's refusal, and then what each hash is answered. Assumes nothing.
 use Prim.Native.Nat.{ℕ}
 use native.Mathlib.Omega.{arith}
-use mathlib.Core.Path.{_≡_, sym, ap₂, _∙_}
+use mathlib.Core.Path.{sym, ap₂, _∙_}
 use mathlib.Core.List.{List, map}
 use Rattle.words.specs.Field.{splice}
 use Rattle.filter.specs.declared.SstFilter.{SstFilter}
