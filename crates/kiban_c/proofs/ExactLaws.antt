@@ -1,13 +1,13 @@
 -- The boundary's own refusals: 6, 1 and 28 exactly for their causes, in this order and before the call's own, and a refused call leaves what
 -- is lent to it, except zeroed workspace. Assumes nothing.
-use Prim.Native.Nat.{ℕ, zero, suc, _<_, _≤_}
+use Prim.Native.Nat.{ℕ, zero, suc, _+_, _<_, _≤_}
 use native.Mathlib.Omega.{arith}
 use mathlib.Core.Path.{_≡_, refl, sym, ap, _∙_}
 use mathlib.Core.Bool.{Bool, true, false, cond}
 use mathlib.Core.List.{List, [], _∷_}
 use mathlib.Core.Logic.{_⊎_, inl, inr}
 use borrow.Author.Tests.{ne-eqb}
-use lib.Dec.{eqb, leb}
+use lib.Dec.{eqb, ltb, leb}
 use lib.ListN.{length, replicate}
 use Rattle.laws.specs.Refusals.{Cause, firstOf, orElse, First, here, later}
 use Rattle.words.specs.Field.{splice}
@@ -28,11 +28,11 @@ use Rattle.finish.specs.declared.Finished.the-variants as finished
 use Rattle.finish.specs.Finish.{lengthsRefusal, finishRefusal, finishOf, outAfter, spaceAfter, finishedNumber, finishedValues}
 use Rattle.finish.proofs.RowLaws.{splice-none}
 use Rattle.finish.proofs.Answers.{finish-number}
-use Rattle.records.specs.declared.Limit.{Limit}
+use Rattle.records.specs.declared.Within.{Within}
+use Rattle.records.specs.declared.Within.the-variants as within
 use Rattle.point.specs.declared.Answer.{Answer}
 use Rattle.point.specs.declared.Answer.the-variants as answered
-use Rattle.point.specs.Get.{getOf, answerNumber, answerValues}
-use Rattle.point.proofs.ExactLaws.{get-only-14}
+use Rattle.point.specs.Get.{openOf, firstFor, answerOf, getOf, answerNumber, answerValues}
 use Rattle.filter.specs.declared.SstFilter.{SstFilter}
 use Rattle.filter.specs.declared.SstFilter.the-variants as read
 use Rattle.filter.specs.declared.Built.{Built}
@@ -229,10 +229,15 @@ no-record (answered.Found v) o = absurd (omega arith)
 no-record answered.Nothing o = refl
 no-record (answered.Refused n) o = refl
 
-get-never-six : (body : List ℕ) (size : ℕ) (key : List ℕ) (limit : Limit) (a : Answer) → getOf body size key limit ≡ a → answerNumber a ≡ 6 → ⊥
-get-never-six body size key limit (answered.Found v) e z = omega arith
-get-never-six body size key limit answered.Nothing e z = omega arith
-get-never-six body size key limit (answered.Refused n) e z = omega (arith, get-only-14 body size key limit n e)
+get-never-six : (size : ℕ) (w : Within) → answerNumber (answerOf size w) ≡ 6 → ⊥
+unfolding answerOf
+get-never-six size (within.Found v) z = go (ltb size (v .offset + v .length)) z
+  where
+    go : (b : Bool) → answerNumber (cond b (answered.Refused 14) (answered.Found v)) ≡ 6 → ⊥
+    go true e = omega arith
+    go false e = omega arith
+get-never-six size within.Nothing z = omega arith
+get-never-six size within.Damaged z = omega arith
 
 module _ {body bytes key answer : List ℕ} {limited limit r : ℕ} {answer' : List ℕ} (P : GetCall body bytes key limited limit answer r answer') where
   -- THEOREM: 6 for an answer under four words, and else get's own number, which is never 6
@@ -240,8 +245,8 @@ module _ {body bytes key answer : List ℕ} {limited limit r : ℕ} {answer' : L
   get-answer-short = six-first (P .number)
 
   pub get-answer-only : r ≡ 6 → length answer < 4
-  get-answer-only =
-      six-only get-answer-short (get-never-six body (length bytes) key (limitGiven limited limit) (getCalled body bytes key limited limit) refl)
+  unfolding getOf
+  get-answer-only = six-only get-answer-short (get-never-six (length bytes) (firstFor body (openOf body key) (limitGiven limited limit)))
 
   -- THEOREM: a refused call, and nothing found, leave the answer
   pub get-refused-leaves : 0 < r → answer' ≡ answer

@@ -2,7 +2,7 @@
 pub mod builder_calls;
 pub mod filter_calls;
 pub mod finish_calls;
-pub mod lent;
+mod lent;
 pub mod lines_calls;
 pub mod mixing_calls;
 pub mod point_calls;
