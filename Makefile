@@ -1,5 +1,6 @@
 # make test is the gate; make run shows the main program on a stored example.
 # make compare runs the given Rust beside the Rattle code, make bench times both: they need cargo, and the given Rust at DOCS_SRC.
+# make bindings tries the host side of the C boundary, as make compare does first: it needs cargo and a C compiler.
 DOCS_SRC ?= ../shared/docs/src
 CASES ?= 100000
 SEED ?= 1
@@ -10,7 +11,7 @@ CARGO = cargo build --quiet --offline --locked --manifest-path compare/Cargo.tom
 # Runs a command quietly; its output is shown where it fails.
 QUIET = mkdir -p target && quiet() { "$$@" > target/quiet.log 2>&1 || { cat target/quiet.log; exit 1; }; } && quiet
 
-.PHONY: test run compare bench splits
+.PHONY: test run bindings compare bench splits
 test:
 	@awk '{ sub(/#.*/, ""); i = index($$0, ":") } i && $$1 != "mixing:" && (substr($$0, i + 1) " ") ~ /[ \t]mixrule[ \t]/ { print "crates.txt: only mixing may list mixrule: " $$0; bad = 1 } END { exit bad }' crates.txt
 	@sh scripts/test-listing-input
@@ -20,8 +21,14 @@ run:
 	@$(QUIET) rt check listing
 	@target/bin/listing < crates/listing/stdin
 
+bindings:
+	@$(QUIET) rt staticlib kiban_c
+	@sh scripts/bindings
+
+# With CALL, that call alone.
 compare:
 	@$(QUIET) rt staticlib kiban_c
+	@$(if $(CALL),:,sh scripts/bindings)
 	@$(ORACLE)
 	@$(CARGO) --profile compare
 	@target/compare/compare/compare compare $(SEED) $(CASES) $(CALL)

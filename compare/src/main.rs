@@ -1,7 +1,6 @@
 //! The Rattle code beside the Rust. `compare SEED CASES [CALL]`, `bench [CALL]`, `splits`, `oracle COMMAND ..`: see README.md.
 mod benches;
 mod calls;
-mod ours;
 mod stored;
 mod table;
 mod tables;
@@ -9,6 +8,7 @@ mod theirs;
 
 use std::process::ExitCode;
 use table::Table;
+use wobarelind::sys as ours;
 
 fn number(word: Option<&String>, otherwise: u64) -> u64 {
     match word {

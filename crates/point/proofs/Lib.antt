@@ -5,4 +5,4 @@ pub mod SlotLaws
 pub mod LookupLaws
 pub mod OpenLaws
 pub mod Theorems
-pub mod ExactLaws
+pub mod CauseLaws

@@ -2,4 +2,5 @@ pub mod Layout
 pub mod Validate
 pub mod Get
 pub mod Table
+pub mod Causes
 pub mod Lookup

@@ -1,6 +1,7 @@
 pub mod CursorLaws
 pub mod KindLaws
 pub mod RuleLaws
+pub mod CauseLaws
 pub mod SearchLaws
 pub mod WalkLaws
 pub mod PassedLaws

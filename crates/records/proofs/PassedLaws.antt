@@ -94,10 +94,10 @@ module _ {slots : ℕ → ℕ} {bytes : List ℕ} {test : DataLength} where
 
 module _ (slots : ℕ → ℕ) (bytes : List ℕ) (test : DataLength) where
   -- the walk from the entry after the one at p, and the walk from p by whether the entry there passes
-  abbrev rest : (p k : ℕ) → Walked
+  abbrev pub rest : (p k : ℕ) → Walked
   rest p k = walkFrom slots bytes test p (nextEntry bytes p) k
 
-  abbrev stepped : (prev p k : ℕ) → Bool → Walked
+  abbrev pub stepped : (prev p k : ℕ) → Bool → Walked
   stepped prev p k b = cond b (passed (rest p k)) (record { keys = 0; end = p; rule = entryRefusal slots bytes test prev p })
 
   -- what the walk says it passed has passed

@@ -2,6 +2,7 @@ pub mod Model
 pub mod Places
 pub mod Rules
 pub mod Walk
+pub mod Causes
 pub mod Within
 pub mod Cursor
 pub mod Needs

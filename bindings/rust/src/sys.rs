@@ -1,4 +1,5 @@
-//! The Rattle code, through the functions of crate kiban_c. A slice passes as pointer and length.
+//! The functions of `libkiban_c.a` on slices: each returns the number that `bindings/c/kiban.h` says, and writes into `answer`.
+//! Only this module has `unsafe`: every pointer it passes is a slice's own, with that slice's length.
 mod c {
     unsafe extern "C" {
         pub safe fn kiban_mix(h: u64) -> u64;
@@ -84,15 +85,22 @@ mod c {
     }
 }
 
+/// `h`, mixed.
 pub fn mix(h: u64) -> u64 {
     c::kiban_mix(h)
 }
+
+/// The hash of a key.
 pub fn hash(key: &[u8], seed: u64) -> u64 {
     unsafe { c::kiban_hash(key.as_ptr(), key.len(), seed) }
 }
+
+/// Sorts hashes where they lie.
 pub fn sort(hashes: &mut [u64]) -> u64 {
     unsafe { c::kiban_sort(hashes.as_mut_ptr(), hashes.len()) }
 }
+
+/// Adds a record. `state`: used, keys, head; `answer`: the place of its offset.
 #[allow(clippy::too_many_arguments)]
 pub fn add(
     buffer: &mut [u8],
@@ -121,9 +129,13 @@ pub fn add(
         )
     }
 }
+
+/// Sets the offset of the last record.
 pub fn set_offset(buffer: &mut [u8], state: &[u64], place: u64, offset: u64) -> u64 {
     unsafe { c::kiban_set_offset(buffer.as_mut_ptr(), buffer.len(), state.as_ptr(), state.len(), place, offset) }
 }
+
+/// Finishes an arena. `answer`: the body's length.
 pub fn finish(arena: &[u8], out: &mut [u8], wide: &mut [u64], narrow: &mut [u32], answer: &mut [u64]) -> u64 {
     unsafe {
         c::kiban_finish(
@@ -140,9 +152,13 @@ pub fn finish(arena: &[u8], out: &mut [u8], wide: &mut [u64], narrow: &mut [u32]
         )
     }
 }
+
+/// Validates a body for data of a length.
 pub fn validate(body: &[u8], data_length: u64) -> u64 {
     unsafe { c::kiban_validate(body.as_ptr(), body.len(), data_length) }
 }
+
+/// The key's record within the limit: 0 found, 1 nothing, 14. `answer`: kind, sequence, offset, length.
 pub fn get(body: &[u8], data: &[u8], key: &[u8], limit: Option<u64>, answer: &mut [u64]) -> u64 {
     let (limited, limit) = (limit.is_some() as u8, limit.unwrap_or(0));
     unsafe {
@@ -160,6 +176,8 @@ pub fn get(body: &[u8], data: &[u8], key: &[u8], limit: Option<u64>, answer: &mu
         )
     }
 }
+
+/// Builds a filter. `answer`: the bytes written.
 pub fn filter_build(
     hashes: &mut [u64],
     wide: &mut [u64],
@@ -182,12 +200,18 @@ pub fn filter_build(
         )
     }
 }
+
+/// Reads a filter. `answer`: form, keys, seed, segment, count, cells.
 pub fn filter_read(bytes: &[u8], answer: &mut [u64]) -> u64 {
     unsafe { c::kiban_filter_read(bytes.as_ptr(), bytes.len(), answer.as_mut_ptr(), answer.len()) }
 }
+
+/// Asks a filter for a hash: 0 absent, 1 maybe, 15.
 pub fn filter_ask(bytes: &[u8], hash: u64) -> u64 {
     unsafe { c::kiban_filter_ask(bytes.as_ptr(), bytes.len(), hash) }
 }
+
+/// Asks a filter for hashes. `answers`: a byte for each, 0 absent or 1 maybe.
 pub fn filter_ask_all(bytes: &[u8], hashes: &[u64], answers: &mut [u8]) -> u64 {
     unsafe {
         c::kiban_filter_ask_all(
@@ -200,6 +224,8 @@ pub fn filter_ask_all(bytes: &[u8], hashes: &[u64], answers: &mut [u8]) -> u64 {
         )
     }
 }
+
+/// Lists an input. `answer`: the text's length.
 pub fn listing(input: &[u8], out: &mut [u8], answer: &mut [u64]) -> u64 {
     unsafe {
         c::kiban_listing(input.as_ptr(), input.len(), out.as_mut_ptr(), out.len(), answer.as_mut_ptr(), answer.len())

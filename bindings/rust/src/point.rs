@@ -1,0 +1,162 @@
+//! The point index: built from records, validated, read.
+use crate::{Refusal, calls};
+
+/// A record's kind.
+#[derive(Clone, Copy, Debug, PartialEq, Eq)]
+pub enum Kind {
+    Put,
+    Tombstone,
+}
+
+impl Kind {
+    pub fn to_u8(self) -> u8 {
+        match self {
+            Kind::Put => 1,
+            Kind::Tombstone => 2,
+        }
+    }
+
+    pub fn from_u8(byte: u8) -> Option<Kind> {
+        match byte {
+            1 => Some(Kind::Put),
+            2 => Some(Kind::Tombstone),
+            _ => None,
+        }
+    }
+}
+
+/// The fewest bytes of a key in an arena: its lengths, and one version.
+const LEAST_ENTRY: usize = 8 + VERSION;
+/// The bytes of a version.
+const VERSION: usize = 21;
+/// The most keys of an index that finish writes.
+const MOST_KEYS: usize = 65_536;
+
+/// Takes records, the keys rising and each key's versions newest first.
+#[derive(Clone, Debug, Default)]
+pub struct PointBuilder {
+    buffer: Vec<u8>,
+    /// Used bytes, keys, the place of the last key.
+    state: [u64; 3],
+}
+
+impl PointBuilder {
+    /// The empty builder.
+    pub fn new() -> Self {
+        Self::default()
+    }
+
+    /// The bytes that the records take.
+    pub fn arena(&self) -> &[u8] {
+        &self.buffer[..self.used()]
+    }
+
+    /// How many keys were added.
+    pub fn keys(&self) -> usize {
+        self.state[1] as usize
+    }
+
+    /// Adds a record with a value of `length` bytes: the place to hand to [`Self::set_value_offset`]; the offset is 0 till then.
+    /// `new_key` is false for a further version of the last key. A refused record leaves the builder as it was.
+    pub fn add(&mut self, kind: Kind, key: &[u8], length: u64, seq: u64, new_key: bool) -> Result<usize, Refusal> {
+        let record = calls::Added { kind: kind.to_u8(), key, length, sequence: seq, new_key };
+        let mut added = calls::add(&mut self.buffer, &mut self.state, &record);
+        if added == Err(Refusal(6)) {
+            self.make_room(LEAST_ENTRY + key.len());
+            added = calls::add(&mut self.buffer, &mut self.state, &record);
+        }
+        added.map(|place| place as usize)
+    }
+
+    /// Sets the value offset of the last record, at the place that [`Self::add`] gave for it.
+    pub fn set_value_offset(&mut self, patch: usize, value_offset: u64) -> Result<(), Refusal> {
+        calls::set_offset(&mut self.buffer, &self.state, patch as u64, value_offset)
+    }
+
+    /// The body of the records added: an index without its five trailer bytes.
+    pub fn finish_legacy(&self) -> Result<Vec<u8>, Refusal> {
+        finish_keys(self.arena(), self.keys())
+    }
+
+    fn used(&self) -> usize {
+        self.state[0] as usize
+    }
+
+    /// Lengthens the buffer to hold `more` bytes past the used ones, at least to twice its length.
+    fn make_room(&mut self, more: usize) {
+        let length = (self.used() + more).max(2 * self.buffer.len());
+        self.buffer.resize(length, 0);
+    }
+}
+
+/// The body of an arena from elsewhere. A [`PointBuilder`] finishes its own.
+pub fn finish(arena: &[u8]) -> Result<Vec<u8>, Refusal> {
+    finish_keys(arena, (arena.len() / LEAST_ENTRY).min(MOST_KEYS))
+}
+
+/// The body of an arena that has at most `n` keys: room for `n`, and what isn't written cut off.
+fn finish_keys(arena: &[u8], n: usize) -> Result<Vec<u8>, Refusal> {
+    let mut out = vec![0; 32 + 4 * n.div_ceil(3) + 12 * n + arena.len()];
+    let (mut wide, mut narrow) = (vec![0; 2 * n], vec![0; 8 * n + 8]);
+    let written = calls::finish(arena, &mut out, &mut wide, &mut narrow)?;
+    out.truncate(written as usize);
+    Ok(out)
+}
+
+/// Whether a body is an index for data of a length; for data that isn't in memory. [`LegacyIndex::decode`] does this first.
+pub fn validate(body: &[u8], data_length: u64) -> Result<(), Refusal> {
+    calls::validate(body, data_length)
+}
+
+/// A key's record: its value is that part of the data.
+#[derive(Clone, Copy, Debug, PartialEq, Eq)]
+pub struct Found<'d> {
+    pub kind: Kind,
+    pub seq: u64,
+    pub offset: u64,
+    pub value: &'d [u8],
+}
+
+/// The key's record of greatest sequence within the limit, from a body that need not be validated: damage that it meets is 14.
+pub fn get<'d>(body: &[u8], data: &'d [u8], key: &[u8], limit: Option<u64>) -> Result<Option<Found<'d>>, Refusal> {
+    let Some([kind, seq, offset, length]) = calls::get(body, data, key, limit)? else {
+        return Ok(None);
+    };
+    let value = &data[offset as usize..(offset + length) as usize];
+    let kind = if kind == 1 { Kind::Put } else { Kind::Tombstone };
+    Ok(Some(Found { kind, seq, offset, value }))
+}
+
+/// A validated body beside its data.
+///
+/// A found value is a part of the data. It may outlive the index and the body, and cannot outlive the data:
+///
+/// ```compile_fail,E0597
+/// # let mut builder = wobarelind::PointBuilder::new();
+/// # builder.add(wobarelind::Kind::Put, b"A", 8, 9, true).unwrap();
+/// # let body = builder.finish_legacy().unwrap();
+/// let found;
+/// {
+///     let data = vec![0; 8];
+///     found = wobarelind::LegacyIndex::decode(&body, &data).unwrap().get(b"A", None).unwrap();
+/// }
+/// assert_eq!(found.value, [0; 8]);
+/// ```
+#[derive(Clone, Copy, Debug)]
+pub struct LegacyIndex<'b, 'd> {
+    body: &'b [u8],
+    data: &'d [u8],
+}
+
+impl<'b, 'd> LegacyIndex<'b, 'd> {
+    /// Validates a body for its data. The five trailer bytes of an index file are not part of the body.
+    pub fn decode(body: &'b [u8], data: &'d [u8]) -> Result<Self, Refusal> {
+        validate(body, data.len() as u64)?;
+        Ok(Self { body, data })
+    }
+
+    /// The key's record of greatest sequence within the limit, or nothing where the list has none.
+    pub fn get(&self, key: &[u8], limit: Option<u64>) -> Option<Found<'d>> {
+        get(self.body, self.data, key, limit).expect("proved: a lookup never refuses a validated body")
+    }
+}
