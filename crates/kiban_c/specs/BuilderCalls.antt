@@ -27,7 +27,7 @@ flagOf n = not (eqb n 0)
 abbrev pub addChecks : (state : List ℕ) (kind : ℕ) (answer : List ℕ) → List Cause
 addChecks state kind answer = answerShort answer 1 ∷ stateShort state ∷ kindOther kind ∷ []
 
--- what add answers, with the state and the kind that were given
+-- what add answers, with the state and the kind that were given (another kind was refused before: `kindOf` would read it as a tombstone)
 abbrev pub addCalled : (buffer state key : List ℕ) (kind size sequence newKey : ℕ) → Added
 addCalled buffer state key kind size sequence newKey = addOf (stateOf state) buffer key (kindOf kind) size sequence (flagOf newKey)
 
