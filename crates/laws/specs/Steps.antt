@@ -1,7 +1,7 @@
 -- Loops as functions: steps that can fail, taken one after another; the least number that succeeds; whether a number below a bound passes a test; sums and the greatest value.
 use Prim.Native.Nat.{ℕ, zero, suc, _+_, _-_, _≤_, _<_, max}
 use mathlib.Core.Path.{_≡_, refl, sym, ap, _∙_, subst}
-use mathlib.Core.Bool.{Bool, true, false, _||_, false≢true}
+use mathlib.Core.Bool.{Bool, true, false, _||_, false≢true, or-true}
 use mathlib.Core.Option.{Option, none, some, bind, bind-eq-some-iff, Option·some-injective, Option·some-ne-none, Option·none-ne-some}
 use native.Mathlib.Nat.{zero-add, suc-add, add-zero}
 use native.Mathlib.Omega.{arith}
@@ -171,12 +171,8 @@ module _ (test : ℕ → Bool) where
   any-some i zero l h = absurd (omega arith)
   any-some i (suc n) l h = go (ℕ-discrete i n) (λ lt. any-some i n lt h)
     where
-      always : (b : Bool) → (b || true) ≡ true
-      always true = refl
-      always false = refl
-
       go : Dec (i ≡ n) → (i < n → anyBelow test n ≡ true) → (anyBelow test n || test n) ≡ true
-      go (yes e) rest = ap (λ (x : Bool). anyBelow test n || x) (ap test (sym e) ∙ h) ∙ always (anyBelow test n)
+      go (yes e) rest = ap (λ (x : Bool). anyBelow test n || x) (ap test (sym e) ∙ h) ∙ or-true (anyBelow test n)
       go (no e) rest = ap (λ (x : Bool). x || test n) (rest (lt-of-le-of-ne (omega arith) e))
 
   pub any-why : (n : ℕ) → anyBelow test n ≡ true → (i : ℕ) × (i < n) × (test i ≡ true)

@@ -1,7 +1,6 @@
--- What is promised, in the order to read: `Figures` (P1 to P9, over the list in `Example`), `Finished` (demand 3 of an index), `Filter`
+-- What is promised, in the order to read: `Figures` (P1 to P9, over the list in records' `Example`), `Finished` (demand 3 of an index), `Filter`
 -- (demand 3 of a filter), `Unique` (each call's result is fixed), and `IdleAdd`, `IdleIndex`, `IdleFilter` (the idle programs, each shut out on a
 -- concrete input).
-pub mod Example
 pub mod Figures
 pub mod Finished
 pub mod Filter
