@@ -156,15 +156,6 @@ module _ (test : ℕ → Bool) where
   unfolding anyBelow
   any-none = refl
 
-  pub any-stays : (n : ℕ) → anyBelow test n ≡ true → (d : ℕ) → anyBelow test (d + n) ≡ true
-  unfolding anyBelow
-  any-stays n h zero = ap (anyBelow test) (zero-add n) ∙ h
-  any-stays n h (suc d) = ap (anyBelow test) (suc-add d n) ∙ ap (λ (x : Bool). x || test (d + n)) (any-stays n h d)
-
-  -- a number that passes, and one that does not
-  pub any-hit : (i n : ℕ) → i < n → test i ≡ true → anyBelow test i ≡ false → anyBelow test n ≡ true
-  any-hit i n l h w = ap (anyBelow test) (omega arith) ∙ any-stays (suc i) (any-more i w ∙ h) (n - suc i)
-
   -- a number that passes, wherever it is, and the one that did
   pub any-some : (i n : ℕ) → i < n → test i ≡ true → anyBelow test n ≡ true
   unfolding anyBelow
@@ -183,6 +174,21 @@ module _ (test : ℕ → Bool) where
       go : (b : Bool) → anyBelow test n ≡ b → (anyBelow test n ≡ true → (i : ℕ) × (i < n) × (test i ≡ true)) → (b || test n) ≡ true → (i : ℕ) × (i < suc n) × (test i ≡ true)
       go true e rest z = (rest e .0, omega (arith, rest e .1), rest e .2)
       go false e rest z = (n, omega arith, z)
+
+  -- where none passes, each fails, and back
+  pub any-false : (n i : ℕ) → anyBelow test n ≡ false → i < n → test i ≡ false
+  any-false n i h l = go (test i) refl
+    where
+      go : (b : Bool) → test i ≡ b → b ≡ false
+      go true e = absurd (false≢true (sym h ∙ any-some i n l e))
+      go false e = refl
+
+  pub none-passes : (n : ℕ) → ((i : ℕ) → i < n → test i ≡ false) → anyBelow test n ≡ false
+  none-passes n h = go (anyBelow test n) refl
+    where
+      go : (b : Bool) → anyBelow test n ≡ b → b ≡ false
+      go true e = let w = any-why n e in absurd (false≢true (sym (h (w .0) (w .1)) ∙ w .2))
+      go false e = refl
 
   pub any-miss : (i : ℕ) → test i ≡ false → anyBelow test i ≡ false → anyBelow test (i + 1) ≡ false
   any-miss i h w = ap (anyBelow test) (add-one i) ∙ any-more i w ∙ h
