@@ -8,13 +8,14 @@ ghost use Rattle.words.specs.Field.{splice};
 ghost use Rattle.records.specs.Model.{versionBytes};
 ghost use Rattle.records.specs.Places.{versionCount};
 ghost use Rattle.builder.specs.State.{emptyBuilder, fits, lastOf, roomOf};
-ghost use Rattle.builder.specs.Add.{withdrawnWithValue, rises, newCauses, continuedCauses, addRefusal, AppendPost, AddPost};
+ghost use Rattle.builder.specs.Add.{rises, newCauses, continuedCauses, addRefusal, AppendPost, AddPost};
 ghost use Rattle.builder.specs.SetOffset.{SetPost};
 use records::Arena;
 use records::Kind;
 use records::Record;
 use records::cursor::Head;
 use records::cursor::key_at;
+use records::rules::full_tombstone;
 
 // The state of a builder: the arena's used bytes, its keys, and where the last key's entry starts.
 pub struct PointBuilder {
@@ -33,16 +34,6 @@ pub enum Added {
 pub enum OffsetSet {
     Set,
     Refused(u8),
-}
-
-// Whether a record is a tombstone with a length.
-fn withdrawn_with_value(kind: Kind, size: u64) -> bool
-    ensures { λ r. ⌜ r ≡ withdrawnWithValue kind size ⌝ }
-{
-    match kind {
-        Kind::Put => false,
-        Kind::Tombstone => size != 0,
-    }
 }
 
 // Writes a version at `at`: sequence, kind, value length, value offset.
@@ -188,7 +179,7 @@ impl PointBuilder {
         if (Record::MAX_VALUE as u64) < length {
             return 2;
         }
-        if withdrawn_with_value(kind, length) {
+        if full_tombstone(kind.byte(), length) {
             return 3;
         }
         if new_key {

@@ -80,7 +80,7 @@ pub fn past_data(test: DataLength, offset: u64, size: u32) -> bool
 }
 
 // A tombstone with length.
-fn full_tombstone(kind: u8, size: u32) -> bool
+pub fn full_tombstone(kind: u8, size: u64) -> bool
     ensures { λ r. ⌜ r ≡ fullTombstone kind size ⌝ }
 {
     if kind == Kind::TOMBSTONE {
@@ -119,7 +119,7 @@ pub fn version_refusal(bytes: &[u8], test: DataLength, prev: usize, p: usize) ->
     if past_data(test, field::u64_at(bytes, p + 13), size) {
         return 29;
     }
-    if full_tombstone(kind, size) {
+    if full_tombstone(kind, size as u64) {
         return 29;
     }
     if sequence_falls(bytes, prev, p) {
