@@ -6,8 +6,9 @@ use mathlib.Core.Option.{Option, none, some, Option·map}
 use lib.ListN.{length, getD, set, replicate}
 use lib.Dec.{eqb}
 use Rattle.mixing.specs.Mixing.{bucketOf, positionOf}
-unfoldable pub use Rattle.mixing.specs.Slots.{bucketsOf, direct, slotBy}
 use Rattle.laws.specs.Steps.{steps, least, anyBelow, greatest}
+-- the buckets of n keys, the mark of a pilot that names a slot, and the slot that a pilot gives a hash
+unfoldable pub use Rattle.mixing.specs.Slots.{bucketsOf, direct, slotBy}
 
 -- pilots 0 to 99,999 are tried
 unfoldable pub tries : ℕ
