@@ -15,7 +15,7 @@ ghost use mathlib.Core.Path.{_≡_};
 ghost use mathlib.Core.Bool.{false};
 ghost use Prim.Native.Nat.{_+_, _^_, _<_, _≤_};
 ghost use lib.ListN.{length};
-ghost use Rattle.point.specs.Layout.{magicRefusal, slotAt, dimensionRefusal, headerRefusal, keysIn, bucketsIn, arenaIn, pilotOf, directPast, slotOf, slotPlace};
+ghost use Rattle.point.specs.Layout.{magicRefusal, slotAt, dimensionRefusal, headerRefusal, seedIn, keysIn, bucketsIn, arenaIn, pilotOf, directPast, slotOf, slotPlace};
 ghost use Rattle.point.specs.Validate.{pilotsRefusal, slotTest, slotRefusal, arenaRefusal, validationRefusal, validateOf, Checked, Reached, Stepping};
 ghost use Rattle.point.specs.Get.{locateHash, locateOf, openRecordOf, openOf, answerOf, getOf, valueOf};
 ghost use Rattle.records.specs.declared.DataLength.the-variants.{Of};
@@ -74,6 +74,38 @@ impl Answer {
     pub const DAMAGE: u8 = 14;
 }
 
+// Of the header: the seed.
+fn seed_in(body: &[u8]) -> u64
+    requires { ⌜ 32 ≤ length (now body) ⌝ }
+    ensures { λ r. ⌜ r ≡ seedIn (now (body .entry)) ⌝ }
+{
+    field::u64_at(body, 8)
+}
+
+// The number of keys.
+pub fn keys_in(body: &[u8]) -> u32
+    requires { ⌜ 32 ≤ length (now body) ⌝ }
+    ensures { λ r. ⌜ r ≡ keysIn (now (body .entry)) ⌝ }
+{
+    field::u32_at(body, 16)
+}
+
+// The number of buckets.
+fn buckets_in(body: &[u8]) -> u32
+    requires { ⌜ 32 ≤ length (now body) ⌝ }
+    ensures { λ r. ⌜ r ≡ bucketsIn (now (body .entry)) ⌝ }
+{
+    field::u32_at(body, 20)
+}
+
+// Where the arena starts.
+pub fn arena_in(body: &[u8]) -> u64
+    requires { ⌜ 32 ≤ length (now body) ⌝ }
+    ensures { λ r. ⌜ r ≡ arenaIn (now (body .entry)) ⌝ }
+{
+    field::u64_at(body, 24)
+}
+
 // 20, or 0.
 fn magic_refusal(body: &[u8]) -> u8
     ensures { λ r. ⌜ r ≡ magicRefusal (now (body .entry)) ⌝ }
@@ -127,9 +159,9 @@ pub fn header_refusal(body: &[u8]) -> u8
     }
     dimension_refusal(
         body.len() as u64,
-        field::u32_at(body, 16) as u64,
-        field::u32_at(body, 20) as u64,
-        field::u64_at(body, 24),
+        keys_in(body) as u64,
+        buckets_in(body) as u64,
+        arena_in(body),
     )
 }
 
@@ -138,7 +170,7 @@ fn pilot_of(body: &[u8], h: u64) -> u32
     requires { ⌜ headerRefusal (now body) ≡ 0 ⌝ }
     ensures { λ r. ⌜ r ≡ pilotOf (now (body .entry)) h ⌝ }
 {
-    let i = mixing::bucket(h, field::u32_at(body, 20) as usize);
+    let i = mixing::bucket(h, buckets_in(body) as usize);
     field::u32_at(body, Header::BYTES + Header::PILOT * i)
 }
 
@@ -147,8 +179,8 @@ fn slot_of(body: &[u8], h: u64) -> usize
     requires { ⌜ (headerRefusal (now body) ≡ 0) × (directPast (keysIn (now body)) (pilotOf (now body) h) ≡ false) ⌝ }
     ensures { λ r. ⌜ (r ≡ slotPlace (now (body .entry)) (slotOf (now (body .entry)) h)) × (r + 12 ≤ length (now (body .entry))) ⌝ }
 {
-    let b = field::u32_at(body, 20) as usize;
-    let n = field::u32_at(body, 16) as usize;
+    let b = buckets_in(body) as usize;
+    let n = keys_in(body) as usize;
     let i = slot_by(h, pilot_of(body, h), n);
     slot_at(b, i)
 }
@@ -165,19 +197,20 @@ fn locate_hash(body: &[u8], h: u64) -> Located
     requires { ⌜ headerRefusal (now body) ≡ 0 ⌝ }
     ensures { λ r. ⌜ r ≡ locateHash (now (body .entry)) h ⌝ }
 {
-    if direct_past(field::u32_at(body, 16), pilot_of(body, h)) {
+    if direct_past(keys_in(body), pilot_of(body, h)) {
         return Located::Damaged;
     }
     let s = slot_of(body, h);
     if field::u16_at(body, s + 8) != mixing::fingerprint(h) {
         return Located::Nothing;
     }
-    let arena = field::u64_at(body, 24) as usize;
+    let arena = arena_in(body) as usize;
     let offset = field::u64_at(body, s) as usize;
     if body.len() - arena < offset {
         return Located::Damaged;
     }
-    Located::At(arena + offset)
+    let place = arena + offset;
+    Located::At(place)
 }
 
 // The place of a record for a key, by its hash alone.
@@ -187,7 +220,7 @@ pub fn locate(body: &[u8], key: &[u8]) -> Located
     if header_refusal(body) != 0 {
         return Located::Damaged;
     }
-    locate_hash(body, mixing::hash(key, field::u64_at(body, 8)))
+    locate_hash(body, mixing::hash(key, seed_in(body)))
 }
 
 // The versions of the record at a place, if it is the key's.
@@ -225,8 +258,8 @@ fn pilots_refusal(body: &[u8]) -> u8
     requires { ⌜ headerRefusal (now body) ≡ 0 ⌝ }
     ensures { λ r. ⌜ r ≡ pilotsRefusal (now (body .entry)) (keysIn (now (body .entry))) 0 (bucketsIn (now (body .entry))) ⌝ }
 {
-    let n = field::u32_at(body, 16);
-    let b = field::u32_at(body, 20) as usize;
+    let n = keys_in(body);
+    let b = buckets_in(body) as usize;
     let mut i = 0;
     while i < b {
         if direct_past(n, field::u32_at(body, Header::BYTES + Header::PILOT * i)) {
@@ -243,7 +276,7 @@ fn slot_test(body: &[u8], h: u64, p: usize) -> u8
     ensures { λ r. ⌜ r ≡ slotTest (now (body .entry)) h p ⌝ }
 {
     let s = slot_of(body, h);
-    if field::u64_at(body, s) != p as u64 - field::u64_at(body, 24) {
+    if field::u64_at(body, s) != p as u64 - arena_in(body) {
         return 26;
     }
     if field::u32_at(body, s + 8) != mixing::fingerprint(h) as u32 {
@@ -257,11 +290,7 @@ fn slot_refusal(body: &[u8], p: usize) -> u8
     requires { ⌜ Reached (now body) p ⌝ }
     ensures { λ r. ⌜ r ≡ slotRefusal (now (body .entry)) p ⌝ }
 {
-    slot_test(
-        body,
-        mixing::hash(key_at(body, p), field::u64_at(body, 8)),
-        p,
-    )
+    slot_test(body, mixing::hash(key_at(body, p), seed_in(body)), p)
 }
 
 // 23 to 29, or 0, of the entry at p after the one at prev: its key, its slot, its versions.
@@ -285,8 +314,8 @@ fn arena_refusal(body: &[u8], data_length: u64) -> u8
     requires { ⌜ Checked (now body) ⌝ }
     ensures { λ r. ⌜ r ≡ arenaRefusal (now (body .entry)) data_length ⌝ }
 {
-    let arena = field::u64_at(body, 24) as usize;
-    let mut left = field::u32_at(body, 16);
+    let arena = arena_in(body) as usize;
+    let mut left = keys_in(body);
     let mut prev = arena;
     let mut p = arena;
     while 0 < left {

@@ -17,17 +17,17 @@ Inv-loop body n b i₀ i = (n ≡ keysIn body) × (b ≡ bucketsIn body) × (i �
 abbrev μ-loop : tie.MeasureT-loop
 μ-loop body n b i₀ i = b - i
 
-u32-at-requires : tie.Need-u32-at-requires Inv-loop μ-loop
-u32-at-requires c κs = let h = headed _ (c .before .pre) in omega arith
+keys-in-requires : tie.Need-keys-in-requires Inv-loop μ-loop
+keys-in-requires c κs = let h = headed _ (c .before .pre) in omega arith
 
-u32-at-requires-2 : tie.Need-u32-at-requires-2 Inv-loop μ-loop
-u32-at-requires-2 c κs = let h = headed _ (c .before .before .pre) in omega arith
+buckets-in-requires : tie.Need-buckets-in-requires Inv-loop μ-loop
+buckets-in-requires c κs = let h = headed _ (c .before .before .pre) in omega arith
 
 cast-b : tie.Need-cast-b Inv-loop μ-loop
 cast-b c = search needs
 
 loop-holds : tie.Need-loop-holds Inv-loop μ-loop
-loop-holds c = (c .before .u32-at .ensures, c .u32-at2 .ensures, omega arith, cc (sub-zero (c .u32-at2 .result), c .before .u32-at .ensures, c .u32-at2 .ensures))
+loop-holds c = (c .before .keys-in .ensures, c .buckets-in .ensures, omega arith, cc (sub-zero (c .buckets-in .result), c .before .keys-in .ensures, c .buckets-in .ensures))
 
 mul-u32-at : tie.Need-mul-u32-at Inv-loop μ-loop
 mul-u32-at c = let h = headed _ (c .before .before .before .before .before .pre) in let l = c .before .loop .inv in omega arith
@@ -35,8 +35,8 @@ mul-u32-at c = let h = headed _ (c .before .before .before .before .before .pre)
 add-u32-at : tie.Need-add-u32-at Inv-loop μ-loop
 add-u32-at c = let h = headed _ (c .before .before .before .before .before .pre) in let l = c .before .loop .inv in omega arith
 
-u32-at-requires-3 : tie.Need-u32-at-requires-3 Inv-loop μ-loop
-u32-at-requires-3 c κs = let h = headed _ (c .before .before .before .before .before .pre) in let l = c .before .loop .inv in omega arith
+u32-at-requires : tie.Need-u32-at-requires Inv-loop μ-loop
+u32-at-requires c κs = let h = headed _ (c .before .before .before .before .before .pre) in let l = c .before .loop .inv in omega arith
 
 direct-past-requires : tie.Need-direct-past-requires Inv-loop μ-loop
 direct-past-requires c κs = search needs
@@ -44,7 +44,7 @@ direct-past-requires c κs = search needs
 returns : tie.Need-returns Inv-loop μ-loop
 returns c =
     let l = c .before .before .before .before .loop in
-    let e : pilotAt (c .before .before .before .before .before .before .before .before .args .body .now) (l .i) ≡ c .before .before .u32-at3 .result = sym (c .before .before .u32-at3 .ensures) in
+    let e : pilotAt (c .before .before .before .before .before .before .before .before .args .body .now) (l .i) ≡ c .before .before .u32-at .result = sym (c .before .before .u32-at .ensures) in
     sym (pilots-past _ _ (l .i) _ (omega arith) (ap (directPast _) e ∙ sym (c .before .direct-past .ensures) ∙ c .if1 .taken)) ∙ l .inv .3
 
 add-i : tie.Need-add-i Inv-loop μ-loop
@@ -56,7 +56,7 @@ loop-less c = search needs
 loop-again : tie.Need-loop-again Inv-loop μ-loop
 loop-again c =
     let l = c .before .before .before .before .loop in
-    let e : pilotAt (c .before .before .before .before .before .before .before .before .args .body .now) (l .i) ≡ c .before .before .u32-at3 .result = sym (c .before .before .u32-at3 .ensures) in
+    let e : pilotAt (c .before .before .before .before .before .before .before .before .args .body .now) (l .i) ≡ c .before .before .u32-at .result = sym (c .before .before .u32-at .ensures) in
     (l .inv .0, l .inv .1, omega arith, sym (pilots-next _ _ (l .i) _ (omega arith) (ap (directPast _) e ∙ sym (c .before .direct-past .ensures) ∙ c .if1 .left)) ∙ l .inv .3)
 
 returns-2 : tie.Need-returns-2 Inv-loop μ-loop
@@ -68,13 +68,13 @@ pilots-refusal-spec =
     (tie.spec
     Inv-loop
     μ-loop
-    u32-at-requires
-    u32-at-requires-2
+    keys-in-requires
+    buckets-in-requires
     cast-b
     loop-holds
     mul-u32-at
     add-u32-at
-    u32-at-requires-3
+    u32-at-requires
     direct-past-requires
     returns
     add-i

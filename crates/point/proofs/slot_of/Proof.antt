@@ -5,14 +5,14 @@ use Rattle.point.proofs.HeaderLaws.{headed, slot-is, slot-stands, slot-
 use Rattle.point.proofs.slot_of.Statement.{statement}
 use Rattle.point.proofs.slot_of.Tie as tie
 
-u32-at-requires : tie.Need-u32-at-requires
-u32-at-requires c κs = let h = headed _ (c .before .pre .0) in omega arith
+buckets-in-requires : tie.Need-buckets-in-requires
+buckets-in-requires c κs = let h = headed _ (c .before .pre .0) in omega arith
 
 cast-b : tie.Need-cast-b
 cast-b c = search needs
 
-u32-at-requires-2 : tie.Need-u32-at-requires-2
-u32-at-requires-2 c κs = let h = headed _ (c .before .before .pre .0) in omega arith
+keys-in-requires : tie.Need-keys-in-requires
+keys-in-requires c κs = let h = headed _ (c .before .before .pre .0) in omega arith
 
 cast-n : tie.Need-cast-n
 cast-n c = search needs
@@ -30,7 +30,7 @@ slot-at-requires c κs =
     let d = headed _ (pre .0) in
     let few = d .dims .few in
     let low = slot-low _ (a .h) d (pre .1) in
-    let e = slot-is _ (a .h) _ _ _ (c .before .before .u32-at2 .ensures) (c .before .pilot-of .ensures) (c .slot-by .ensures) in
+    let e = slot-is _ (a .h) _ _ _ (c .before .before .keys-in .ensures) (c .before .pilot-of .ensures) (c .slot-by .ensures) in
     (omega arith, omega arith)
 
 returns : tie.Need-returns
@@ -39,9 +39,9 @@ returns c =
     let a = c .before .before .before .before .before .before .args in
     let d = headed _ (pre .0) in
     let s = slot-inside _ (a .h) d (pre .1) in
-    let i = slot-is _ (a .h) _ _ _ (c .before .before .before .u32-at2 .ensures) (c .before .before .pilot-of .ensures) (c .before .slot-by .ensures) in
-    let e = slot-stands _ (a .h) _ _ _ (c .before .before .before .before .u32-at .ensures) i (c .slot-at .ensures) in
+    let i = slot-is _ (a .h) _ _ _ (c .before .before .before .keys-in .ensures) (c .before .before .pilot-of .ensures) (c .before .slot-by .ensures) in
+    let e = slot-stands _ (a .h) _ _ _ (c .before .before .before .before .buckets-in .ensures) i (c .slot-at .ensures) in
     (e, omega arith)
 
 pub slot-of-spec : {M : Type 1} → statement M
-slot-of-spec = tie.close (tie.spec u32-at-requires cast-b u32-at-requires-2 cast-n pilot-of-requires slot-by-requires slot-at-requires returns)
+slot-of-spec = tie.close (tie.spec buckets-in-requires cast-b keys-in-requires cast-n pilot-of-requires slot-by-requires slot-at-requires returns)

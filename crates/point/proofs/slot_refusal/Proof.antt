@@ -9,8 +9,8 @@ use Rattle.point.proofs.slot_refusal.Tie as tie
 key-at-requires : tie.Need-key-at-requires
 key-at-requires c κs = search needs
 
-u64-at-requires : tie.Need-u64-at-requires
-u64-at-requires c κs = let h = headed _ (c .before .before .pre .checked .header) in omega arith
+seed-in-requires : tie.Need-seed-in-requires
+seed-in-requires c κs = let h = headed _ (c .before .before .pre .checked .header) in omega arith
 
 hash-requires : tie.Need-hash-requires
 hash-requires c κs = search needs
@@ -22,7 +22,7 @@ slot-test-requires c κs =
 
 returns : tie.Need-returns
 returns c =
-    slot-of-key _ _ (c .before .before .before .before .before .args .p) _ _ _ (c .before .before .before .key-at .ensures) (c .before .before .u64-at .ensures) (c .before .hash .ensures) (c .slot-test .ensures)
+    slot-of-key _ _ (c .before .before .before .before .before .args .p) _ _ _ (c .before .before .before .key-at .ensures) (c .before .before .seed-in .ensures) (c .before .hash .ensures) (c .slot-test .ensures)
 
 pub slot-refusal-spec : {M : Type 1} → statement M
-slot-refusal-spec = tie.close (tie.spec key-at-requires u64-at-requires hash-requires slot-test-requires returns)
+slot-refusal-spec = tie.close (tie.spec key-at-requires seed-in-requires hash-requires slot-test-requires returns)
