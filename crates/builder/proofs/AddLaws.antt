@@ -12,14 +12,15 @@ use Rattle.laws.specs.Refusals.{None, none-here, none-more, Numbered, numbered-
 use Rattle.words.specs.declared.part.Order.{Order}
 use Rattle.words.specs.Part.{orderOf, sameAs}
 use Rattle.records.specs.declared.Kind.{Kind}
+use Rattle.records.specs.Model.{kindByte}
 use Rattle.records.specs.Places.{versionCount, keyAt}
-use Rattle.records.specs.Rules.{isLess}
+use Rattle.records.specs.Rules.{isLess, fullTombstone}
 use Rattle.builder.specs.declared.PointBuilder.{PointBuilder}
 use Rattle.builder.specs.declared.Added.{Added}
 use Rattle.builder.specs.declared.Added.the-variants.{Refused}
 use Rattle.builder.specs.State.{fits, lastOf, roomOf}
 use Rattle.builder.proofs.StateLaws.{fits-known, fits-inside}
-use Rattle.builder.specs.Add.{withdrawnWithValue, rises, newCauses, continuedCauses, addCauses, addRefusal, recordOf, addOf, bufferAfterAdd, AppendPost, AddPost}
+use Rattle.builder.specs.Add.{rises, newCauses, continuedCauses, addCauses, addRefusal, recordOf, addOf, bufferAfterAdd, AppendPost, AddPost}
 
 -- a key beside the last one
 pub rises-known : (s : PointBuilder) (buffer key : List ℕ) → (s .keys ≡ 0 → ⊥) → (o : Order) → orderOf (keyAt buffer (s .head)) key ≡ o → isLess o ≡ rises s (lastOf s buffer) key
@@ -31,7 +32,7 @@ pub record Sized (s : PointBuilder) (buffer key : List ℕ) (kind : Kind) (size 
   pub fitting : fits s buffer ≡ true
   pub short : length key ≤ 1048576
   pub small : size ≤ 16777216
-  pub valued : withdrawnWithValue kind size ≡ false
+  pub valued : fullTombstone (kindByte kind) size ≡ false
 
 -- what passed of a new key
 pub record Opened (s : PointBuilder) (buffer key : List ℕ) : Type 0 where

@@ -16,12 +16,13 @@ use Rattle.records.specs.declared.Kind.{Kind}
 use Rattle.records.specs.declared.Kind.the-variants.{Put, Tombstone}
 use Rattle.records.specs.declared.Record.{Record}
 use Rattle.records.specs.declared.DataLength.the-variants.{Untested}
-use Rattle.records.specs.Model.{Entry, versionBytes, entryBytes, tableBytes, Rises, falls-one}
+use Rattle.records.specs.Model.{Entry, kindByte, versionBytes, entryBytes, tableBytes, Rises, falls-one}
 use Rattle.records.specs.Places.{versionCount}
+use Rattle.records.specs.Rules.{fullTombstone}
 use Rattle.records.specs.Tables.{RecordRules, EntryRules, TableRules}
 use Rattle.records.proofs.WriteLaws.{version-size, entry-size}
 use Rattle.builder.specs.declared.PointBuilder.{PointBuilder}
-use Rattle.builder.specs.Add.{withdrawnWithValue, recordOf, newEntry, nextState, appended}
+use Rattle.builder.specs.Add.{recordOf, newEntry, nextState, appended}
 use Rattle.builder.specs.Taken.{withOffset}
 use Rattle.builder.proofs.ListLaws.{each-last, last-each, falls-on, falls-last, rises-last}
 use Rattle.builder.proofs.BodyLaws.{entry, table-last, body, body-table, body-more, body-length, body-count, version-offset}
@@ -29,11 +30,11 @@ use Rattle.builder.proofs.HeldLaws.{Standing, entry-rules, read-count, 
 
 -- ---- a record that passed keeps the rules
 
-empty-valued : (kind : Kind) (size : ℕ) → withdrawnWithValue kind size ≡ false → kind ≡ Tombstone → size ≡ 0
+empty-valued : (kind : Kind) (size : ℕ) → fullTombstone (kindByte kind) size ≡ false → kind ≡ Tombstone → size ≡ 0
 empty-valued Put size v e = absurd (let z : _≡_ {A = ℕ} 0 1 = cc in omega arith)
 empty-valued Tombstone size v e = eqb-true size 0 (not-false (eqb size 0) v)
 
-pub record-rules : (kind : Kind) (size sequence : ℕ) → size ≤ 16777216 → withdrawnWithValue kind size ≡ false → sequence < 2 ^ 64 → RecordRules Untested (recordOf kind size sequence 0)
+pub record-rules : (kind : Kind) (size sequence : ℕ) → size ≤ 16777216 → fullTombstone (kindByte kind) size ≡ false → sequence < 2 ^ 64 → RecordRules Untested (recordOf kind size sequence 0)
 record-rules kind size sequence z v q =
     record {
       fits = record { sequence-fits = q; length-fits = omega arith; offset-fits = omega arith };

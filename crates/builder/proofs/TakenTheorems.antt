@@ -8,16 +8,15 @@ use native.Mathlib.Omega.{arith}
 use lib.ListN.{length, take, length-append}
 use Rattle.laws.specs.Each.{Each}
 use Rattle.laws.specs.Each.Each.{each-none}
-use Rattle.words.specs.declared.part.Order.{Order}
-use Rattle.words.specs.declared.part.Order.the-variants.{Less, Equal, Greater}
+use Rattle.words.specs.declared.part.Order.the-variants.{Less}
 use Rattle.words.specs.Part.{orderOf}
 use Rattle.words.proofs.Laws.{AllBytes}
 use Rattle.records.specs.declared.Kind.{Kind}
 use Rattle.records.specs.declared.Record.{Record}
 use Rattle.records.specs.declared.DataLength.the-variants.{Untested}
 use Rattle.records.specs.Model.{Entry, tableBytes, rises-none, rises-one}
-use Rattle.records.specs.Rules.{isLess}
 use Rattle.records.specs.Tables.{TableRules}
+use Rattle.records.proofs.ModelLaws.{less-is}
 use Rattle.builder.specs.declared.PointBuilder.{PointBuilder}
 use Rattle.builder.specs.State.{emptyBuilder, lastOf, fits}
 use Rattle.builder.specs.Add.{rises, recordOf, newEntry, nextState, appended, addRefusal, bufferAfterAdd}
@@ -36,11 +35,6 @@ pub data Held : PointBuilder → List ℕ → List Entry → Type 0 where
   held-none : {buffer : List ℕ} → Held emptyBuilder buffer []
   held-some : {s : PointBuilder} {buffer : List ℕ} (front : List Entry) (key : List ℕ) (older : List Record) (newest : Record) → Standing s buffer front key older newest → Held s buffer (ending front key older newest)
 
-less-only : (o : Order) → isLess o ≡ true → o ≡ Less
-less-only Less e = refl
-less-only Equal e = cc
-less-only Greater e = cc
-
 -- ---- each way keeps it
 
 module _ (buffer key : List ℕ) (kind : Kind) (size sequence : ℕ) (q : sequence < 2 ^ 64) where
@@ -55,7 +49,7 @@ module _ (buffer key : List ℕ) (kind : Kind) (size sequence : ℕ) (q : sequen
       let p = new-passed s buffer key kind size sequence z in
       let r = new-ready s buffer key kind size sequence true refl z in
       let o : orderOf last key ≡ Less =
-      less-only (orderOf last key) (rises-known s buffer key (keyed s buffer front last older newest st) (orderOf last key) (ap (λ (k : List ℕ). orderOf k key) (read-key s buffer front last older newest st)) ∙ p .1 .rising) in
+      less-is (orderOf last key) (rises-known s buffer key (keyed s buffer front last older newest st) (orderOf last key) (ap (λ (k : List ℕ). orderOf k key) (read-key s buffer front last older newest st)) ∙ p .1 .rising) in
       held-some (ending front last older newest) key [] (recordOf kind size sequence 0)
       (new-stands s buffer key (ending front last older newest) (recordOf kind size sequence 0) (st .bytes) (r .0) (st .counted ∙ sym (length-append front (entry last (older ++ (newest ∷ [])) ∷ []))) (r .2) (r .1)
       (record-rules kind size sequence (p .0 .small) (p .0 .valued) q) (st .rules .entries)

@@ -1,7 +1,7 @@
 -- Add: its refusal, the next state and the next buffer (document 01, "Calls and the numbers they refuse with").
 use Prim.Native.Nat.{ℕ, _+_, _-_}
 use mathlib.Core.Path.{_≡_}
-use mathlib.Core.Bool.{Bool, true, false, cond, not}
+use mathlib.Core.Bool.{Bool, true, cond, not}
 use mathlib.Core.List.{List, [], _∷_}
 use lib.Dec.{ltb, leb, eqb}
 use lib.ListN.{length}
@@ -9,20 +9,14 @@ use Rattle.laws.specs.Refusals.{Cause, cause, firstOf}
 use Rattle.words.specs.Field.{bytesOf, splice}
 use Rattle.words.specs.Part.{orderOf, sameAs}
 use Rattle.records.specs.declared.Kind.{Kind}
-use Rattle.records.specs.declared.Kind.the-variants.{Put, Tombstone}
 use Rattle.records.specs.declared.Record.{Record}
-use Rattle.records.specs.Model.{Entry, versionBytes, entryBytes}
+use Rattle.records.specs.Model.{Entry, kindByte, versionBytes, entryBytes}
 use Rattle.records.specs.Places.{versionCount}
-use Rattle.records.specs.Rules.{isLess}
+use Rattle.records.specs.Rules.{isLess, fullTombstone}
 use Rattle.builder.specs.declared.PointBuilder.{PointBuilder}
 use Rattle.builder.specs.declared.Added.{Added}
 use Rattle.builder.specs.declared.Added.the-variants.{Taken, Refused}
 use Rattle.builder.specs.State.{fits, Last, lastOf, roomOf}
-
--- tombstone with nonzero length
-abbrev pub withdrawnWithValue : Kind → ℕ → Bool
-withdrawnWithValue Put size = false
-withdrawnWithValue Tombstone size = not (eqb size 0)
 
 -- the key is greater than the last, if there is one
 unfoldable pub rises : PointBuilder → Last → List ℕ → Bool
@@ -57,7 +51,7 @@ addCauses s fitting last room key kind size sequence newKey =
     cause (not fitting) 1
     ∷ cause (ltb 1048576 (length key)) 2
     ∷ cause (ltb 16777216 size) 2
-    ∷ cause (withdrawnWithValue kind size) 3
+    ∷ cause (fullTombstone (kindByte kind) size) 3
     ∷ cond newKey (newCauses s last room key) (continuedCauses s last room key sequence)
 
 -- the refusal of add, 0 for none

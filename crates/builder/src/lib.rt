@@ -1,19 +1,21 @@
 // The point builder: records are added to an arena one by one, and the last one's offset is set.
 ghost use mathlib.Core.Path.{_≡_};
 ghost use mathlib.Core.Bool.{true, false};
-ghost use mathlib.Core.List.{_∷_, []};
 ghost use Prim.Native.Nat.{_+_, _≤_, _<_};
 ghost use lib.ListN.{length};
 ghost use Rattle.laws.specs.Refusals.{firstOf};
 ghost use Rattle.words.specs.Field.{splice};
-ghost use Rattle.records.specs.Model.{kindByte, versionBytes};
-ghost use Rattle.records.specs.Places.{keyAt, firstVersion, versionCount};
+ghost use Rattle.records.specs.Model.{versionBytes};
+ghost use Rattle.records.specs.Places.{versionCount};
 ghost use Rattle.builder.specs.State.{emptyBuilder, fits, lastOf, roomOf};
-ghost use Rattle.builder.specs.Add.{withdrawnWithValue, rises, newCauses, continuedCauses, addRefusal, AppendPost, AddPost};
+ghost use Rattle.builder.specs.Add.{rises, newCauses, continuedCauses, addRefusal, AppendPost, AddPost};
 ghost use Rattle.builder.specs.SetOffset.{SetPost};
+use records::Arena;
 use records::Kind;
 use records::Record;
 use records::cursor::Head;
+use records::cursor::key_at;
+use records::rules::full_tombstone;
 
 // The state of a builder: the arena's used bytes, its keys, and where the last key's entry starts.
 pub struct PointBuilder {
@@ -34,60 +36,21 @@ pub enum OffsetSet {
     Refused(u8),
 }
 
-// Writes one byte at `at`.
-fn put_byte(raw: &mut [u8], at: usize, v: u8)
-    requires { ⌜ at < length (now raw) ⌝ }
-    ensures { λ _. ⌜ now (raw .exit) ≡ splice (now (raw .entry)) at (v ∷ []) ⌝ }
-{
-    raw[at] = v;
-}
-
-// The byte of a kind.
-fn byte_of(kind: Kind) -> u8
-    ensures { λ r. ⌜ r ≡ kindByte kind ⌝ }
-{
-    match kind {
-        Kind::Put => Kind::PUT,
-        Kind::Tombstone => Kind::TOMBSTONE,
-    }
-}
-
-// Whether a record is a tombstone with a length.
-fn withdrawn_with_value(kind: Kind, size: u64) -> bool
-    ensures { λ r. ⌜ r ≡ withdrawnWithValue kind size ⌝ }
-{
-    match kind {
-        Kind::Put => false,
-        Kind::Tombstone => size != 0,
-    }
-}
-
 // Writes a version at `at`: sequence, kind, value length, value offset.
 fn put_version(raw: &mut [u8], at: usize, version: Record)
     requires { ⌜ at + 21 ≤ length (now raw) ⌝ }
     ensures { λ _. ⌜ now (raw .exit) ≡ splice (now (raw .entry)) at (versionBytes version) ⌝ }
 {
     let kind = version.kind;
-    let byte = byte_of(kind);
+    let byte = kind.byte();
     words::field::put_u64(raw, at, version.sequence);
-    put_byte(raw, at + 8, byte);
+    words::field::put_u8(raw, at + 8, byte);
     words::field::put_u32(raw, at + 9, version.length);
     words::field::put_u64(raw, at + 13, version.offset);
 }
 
-// The key of the entry at `head`.
-fn key_at(arena: &[u8], head: usize) -> &[u8]
-    requires { ⌜ (head + 8 ≤ length (now arena)) × (firstVersion (now arena) head ≤ length (now arena)) ⌝ }
-    ensures { λ r. ⌜ now r ≡ keyAt (now (arena .entry)) head ⌝ }
-{
-    let from = head + 8;
-    let to = from + words::field::u32_at(arena, head) as usize;
-    &arena[from..to]
-}
-
 impl PointBuilder {
-    pub const MAX_KEYS: usize = 65_536;
-
+    // The most versions of a key.
     pub const MAX_VERSIONS: u32 = 4_294_967_295;
 
     // The builder that nothing was added to.
@@ -110,7 +73,7 @@ impl PointBuilder {
         if self.keys == 0 {
             return used == 0 && head == 0;
         }
-        if PointBuilder::MAX_KEYS < self.keys {
+        if Arena::MAX_KEYS < self.keys {
             return false;
         }
         if buffer.len() < used {
@@ -161,7 +124,7 @@ impl PointBuilder {
         if !self.rises(buffer, key) {
             return 4;
         }
-        if PointBuilder::MAX_KEYS <= self.keys {
+        if Arena::MAX_KEYS <= self.keys {
             return 5;
         }
         if buffer.len() - used < Head::BYTES + Record::BYTES + key.len() {
@@ -216,7 +179,7 @@ impl PointBuilder {
         if (Record::MAX_VALUE as u64) < length {
             return 2;
         }
-        if withdrawn_with_value(kind, length) {
+        if full_tombstone(kind.byte(), length) {
             return 3;
         }
         if new_key {
@@ -234,8 +197,8 @@ impl PointBuilder {
         let size = key.len();
         words::field::put_u32(buffer, used, size as u32);
         words::field::put_u32(buffer, used + 4, 1);
-        words::part::copy_at(buffer, used + 8, key);
-        put_version(buffer, used + 8 + size, version);
+        words::part::copy_at(buffer, used + Head::BYTES, key);
+        put_version(buffer, used + Head::BYTES + size, version);
         let end = used + Head::BYTES + size + Record::BYTES;
         let next = PointBuilder {
             used: end,

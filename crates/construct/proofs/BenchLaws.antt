@@ -17,9 +17,6 @@ use Rattle.construct.proofs.Placed.{member-of, of-skips, of-several}
 use Rattle.construct.proofs.PlacesLaws.{start-next, start-all, start-rises}
 use Rattle.construct.proofs.PartsLaws.{part, back, set-inside, set-before, back-inside, back-before}
 
-pub span : (a n : ℕ) → a + n - a ≡ n
-span a n = omega arith
-
 -- other words, with the places of the buckets as they were
 pub bench-kept : (h w w′ : List ℕ) (n b : ℕ) → Bench h w n b → length w′ ≡ length w → take (b + 1) w′ ≡ take (b + 1) w → Bench h w′ n b
 bench-kept h w w′ n b B len same = record {

@@ -1,18 +1,17 @@
--- An attempt on lent workspace, the attempts one after another, and the slot of a hash, as their parts answer them. Assumes nothing.
-use Prim.Native.Nat.{ℕ, _+_, _-_, _≤_, _<_}
+-- An attempt on lent workspace, and the attempts one after another, as their parts answer them. Assumes nothing.
+use Prim.Native.Nat.{ℕ, _+_, _≤_, _<_}
 use mathlib.Core.Path.{_≡_, sym, ap, _∙_, subst}
-use mathlib.Core.Bool.{Bool, true, false, cond}
+use mathlib.Core.Bool.{Bool, true, false}
 use mathlib.Core.List.{List, _++_}
 use mathlib.Core.Option.{none, some, Option·some-injective, Option·none-ne-some}
 use native.Mathlib.Omega.{arith}
 use native.Mathlib.Decide.{ℕ-discrete}
 use native.Mathlib.Numerals.{lt-of-le-of-ne}
-use lib.ListN.{length, getD, take, drop, replicate}
+use lib.ListN.{length, take, drop, replicate}
 use lib.Seq.{length-take-le, length-front, take-at}
-use borrow.Author.Tests.{lt-ltb, le-ltb}
-use Rattle.mixing.specs.Mixing.{bucketOf, positionOf, seedOf}
+use Rattle.mixing.specs.Mixing.{seedOf}
 use Rattle.laws.specs.Steps.{least-at, least-of-none}
-use Rattle.construct.specs.Construct.{bucketsOf, direct, attempts, Placing, attemptOf, constructOf, slotBy, indexOf}
+use Rattle.construct.specs.Construct.{bucketsOf, attempts, Placing, attemptOf, constructOf}
 use Rattle.construct.specs.Keys.{Entries, hashesOf, attemptHashes}
 use Rattle.construct.specs.Layout.{placing, Fresh, Lent, Attempted, answerOf, Built}
 use Rattle.construct.specs.declared.Constructed.the-variants.{Placed, Exhausted}
@@ -93,17 +92,3 @@ module _ (arena : List ℕ) (n i : ℕ) (failed : (q : ℕ) → q < i → attemp
         go : Dec (q ≡ i) → attemptOf (attemptHashes arena n q) ≡ none
         go (yes z) = ap (λ (x : ℕ). attemptOf (attemptHashes arena n x)) z ∙ under .ended .failed f
         go (no z) = failed q (lt-of-le-of-ne (omega arith) z)
-
--- the slot of hash h under the pilot of its bucket k
-module _ (h n k : ℕ) (pilots : List ℕ) (e : k ≡ bucketOf h (length pilots)) where
-  pub index-low : (r : ℕ) → getD pilots k 0 < 2147483648 → r ≡ positionOf h (getD pilots k 0) n → r ≡ indexOf h pilots n
-  unfolding indexOf slotBy direct
-  index-low r l z =
-      z ∙ sym (ap (λ (t : Bool). cond t (positionOf h (getD pilots k 0) n) (getD pilots k 0 - 2147483648)) (lt-ltb (getD pilots k 0) 2147483648 l))
-      ∙ ap (λ (x : ℕ). slotBy h (getD pilots x 0) n) e
-
-  pub index-high : 2147483648 ≤ getD pilots k 0 → getD pilots k 0 - 2147483648 ≡ indexOf h pilots n
-  unfolding indexOf slotBy direct
-  index-high l =
-      sym (ap (λ (t : Bool). cond t (positionOf h (getD pilots k 0) n) (getD pilots k 0 - 2147483648)) (le-ltb (getD pilots k 0) 2147483648 l))
-      ∙ ap (λ (x : ℕ). slotBy h (getD pilots x 0) n) e

@@ -1,20 +1,16 @@
 -- The eight attempts: all fail, or the first that does not is taken, and then every key is found. Assumes nothing.
 use Prim.Native.Nat.{ℕ, _<_}
-use mathlib.Core.Path.{_≡_, refl, sym, ap, _∙_, subst}
+use mathlib.Core.Path.{_≡_, refl, sym, ap, _∙_}
 use mathlib.Core.List.{List}
 use mathlib.Core.Option.{Option, none, some}
 use native.Mathlib.Omega.{arith}
 use lib.ListN.{length}
-use Rattle.mixing.specs.Mixing.{seedOf}
 use Rattle.laws.specs.Steps.{least-found, least-before, least-none, least-of-none}
-use Rattle.construct.specs.Construct.{bucketsOf, attempts, Placing, attemptOf, constructOf}
-use Rattle.construct.specs.Promised.{Whole, Pilots, Left}
-use Rattle.construct.specs.Layout.{placing, answerOf, numberOf, Built}
+use Rattle.construct.specs.Construct.{attempts, Placing, attemptOf, constructOf}
+use Rattle.construct.specs.Promised.{Whole, Pilots}
+use Rattle.construct.specs.Layout.{answerOf, numberOf, Built}
 use Rattle.construct.specs.declared.Constructed.{Constructed}
-use Rattle.construct.specs.declared.Constructed.the-variants.{Placed}
-use Rattle.construct.specs.Keys.{attemptHashes}
 use Rattle.construct.proofs.Placed.{placed}
-use Rattle.construct.proofs.KeysLaws.{hashes-long}
 use Rattle.construct.proofs.Choosing.{pilots-least}
 
 module _ (hashes : ℕ → List ℕ) where
@@ -51,29 +47,3 @@ module _ (hashes : ℕ → List ℕ) where
 
     pub fails-ten : ((i : ℕ) → i < 8 → attemptOf (hashes i) ≡ none) → numberOf r ≡ 10
     fails-ten f = ap numberOf (B .answer ∙ ap answerOf (none-left f))
-
--- WHAT THE CODE LEAVES where attempt i is taken
-pub taken-left : (arena : List ℕ) (n : ℕ) (h w : List ℕ) (r : Constructed) → 0 < n → Built (attemptHashes arena n) n h w r → (i : ℕ) → r ≡ Placed i → Left arena n i h w
-unfolding attemptHashes
-taken-left arena n h w r pos B i e =
-    let t = answered (constructOf hs) (sym (B .answer) ∙ e) in
-    let f = first-taken hs i (t .0) (t .1) in
-    let k = B .kept i (t .0) (t .1) in
-    let p = B .placed i (t .0) (t .1) in
-    let g = taken-whole hs (λ q. subst (λ (x : ℕ). 0 < x) (sym (hashes-long (seedOf q) arena n)) pos) i (t .0) (t .1) in
-    record {
-      low = f .0;
-      first = f .2;
-      hashes = k;
-      whole = subst (λ (x : List ℕ). Whole x (placing n (bucketsOf n) w)) (sym k) (subst (Whole (hs i)) (sym p) (g .0));
-      pilots = subst (λ (x : List ℕ). Pilots x (placing n (bucketsOf n) w .pilots)) (sym k) (subst (λ (x : Placing). Pilots (hs i) (x .pilots)) (sym p) (g .1));
-    }
-  where
-    hs : ℕ → List ℕ
-    hs = attemptHashes arena n
-
-    answered : (o : Option (ℕ × Placing)) → answerOf o ≡ Placed i → (pl : Placing) × (o ≡ some (i, pl))
-    answered none z = absurd (let q : _≡_ {A = ℕ} 0 1 = cc in omega arith)
-    answered (some (j, pl)) z =
-        let same : j ≡ i = cc in
-        (pl, ap (λ (x : ℕ). some (x, pl)) same)

@@ -11,10 +11,11 @@ use native.Mathlib.Numerals.{lt-of-le-of-ne}
 use lib.ListN.{length, getD}
 use borrow.Author.Tests.{eq-eqb, eqb-true}
 use Rattle.mixing.specs.Mixing.{bucketOf, bucketOf-lt}
+use Rattle.mixing.specs.Slots.{some-buckets}
 use Rattle.laws.specs.Steps.{steps, steps-why, least, least-none, least-of-none, any-some, any-why}
 use Rattle.construct.specs.Construct.{bucketsOf, tries, members, group, size, alike, met, twins, twinsAt, anyTwins, seat, Placing, noted, placeGroup, placeOf, placeSize, placeDown, largest, blank, attemptFrom, attemptOf}
 use Rattle.construct.specs.Promised.{Turn, EqualHashes, NoPilot}
-use Rattle.construct.proofs.Placed.{some-buckets, member-of, key-place, of-skips, of-one, of-several}
+use Rattle.construct.proofs.Placed.{member-of, key-place, of-skips, of-one, of-several}
 use Rattle.construct.proofs.PlacesLaws.{member-rank}
 use Rattle.construct.proofs.FitsLaws.{unseated, unfit}
 use Rattle.construct.proofs.TurnsLaws.{turn-spots, slot-free, turn-fails}

@@ -8,11 +8,6 @@ use Rattle.mixing.specs.Mixing.{bucketOf, positionOf, bucketOf-lt}
 use Rattle.laws.specs.Steps.{steps, least, anyBelow, greatest}
 use Rattle.construct.specs.Construct.{bucketsOf, tries, direct, members, group, size, alike, met, twins, twinsAt, anyTwins, settle, spot, seat, noted, placeGroup, placeSingle, placeOf, placeSize, placeDown, largest, blank, attemptFrom, attemptOf}
 
--- P1: 1, 3, 4 and 5 keys have 1, 1, 2 and 2 buckets
-pub buckets-of : (bucketsOf 1 ≡ 1) × (bucketsOf 3 ≡ 1) × (bucketsOf 4 ≡ 2) × (bucketsOf 5 ≡ 2)
-unfolding bucketsOf
-buckets-of = (refl, refl, refl, refl)
-
 -- one key takes slot 0, named directly
 pub one-key : (h : ℕ) → attemptOf (h ∷ []) ≡ some (record { pilots = 2147483648 ∷ []; slots = 1 ∷ [] })
 unfolding attemptOf attemptFrom anyTwins twinsAt twins met alike anyBelow steps bind least greatest bucketsOf tries direct members group size settle spot seat noted placeGroup placeSingle placeOf placeSize placeDown largest blank

@@ -1,6 +1,6 @@
 -- The entries of an arena one after another: they begin where the last ends, and those before an entry inside the arena are inside too; hashes stored one after another. Assumes nothing.
 use Prim.Native.Nat.{ℕ, zero, suc, _+_, _≤_, _<_}
-use mathlib.Core.Path.{_≡_, refl, sym, ap, ap₂, _∙_}
+use mathlib.Core.Path.{_≡_, refl, sym, ap, ap₂, _∙_, subst}
 use mathlib.Core.List.{List, [], _∷_, _++_}
 use native.Mathlib.Omega.{arith}
 use native.Mathlib.Decide.{ℕ-discrete}
@@ -10,7 +10,7 @@ use lib.Seq.{take-suc-set}
 use Rattle.mixing.specs.Mixing.{hashOf}
 use Rattle.records.specs.Places.{keyAt, nextEntry, entryPlace}
 use Rattle.records.proofs.PassedLaws.{place-rises, place-next}
-use Rattle.construct.specs.Keys.{keyOf, hashesOf}
+use Rattle.construct.specs.Keys.{keyOf, hashesOf, Entries}
 
 -- the entries begin at the start, and each where the last ends
 pub entry-first : (arena : List ℕ) → entryPlace arena 0 0 ≡ 0
@@ -27,6 +27,10 @@ entry-rises arena i n l = go (ℕ-discrete (suc i) n)
     go : Dec (suc i ≡ n) → nextEntry arena (entryPlace arena 0 i) ≤ entryPlace arena 0 n
     go (yes e) = omega (arith, place-next arena 0 i, ap (entryPlace arena 0) e)
     go (no e) = omega (arith, place-next arena 0 i, place-rises arena 0 (suc i) n (lt-of-le-of-ne l e))
+
+-- entry i lies inside the arena, where i is less than the n that do
+pub entry-inside : (arena : List ℕ) (n i p : ℕ) → Entries arena n → p ≡ entryPlace arena 0 i → i < n → nextEntry arena p ≤ length arena
+entry-inside arena n i p E e l = subst (λ (x : ℕ). nextEntry arena x ≤ length arena) (sym e) (omega (arith, entry-rises arena i n l, E))
 
 -- no hashes yet, and one more stored
 pub hashes-none : (seed : ℕ) (arena : List ℕ) → hashesOf seed arena 0 ≡ []

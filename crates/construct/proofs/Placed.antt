@@ -14,6 +14,7 @@ use lib.Seq.{getD-set-same, getD-set-other}
 use lib.Dec.{eqb, ltb, lit≤}
 use borrow.Author.Tests.{eq-eqb, ne-eqb, lt-ltb, le-ltb}
 use Rattle.mixing.specs.Mixing.{bucketOf, positionOf, bucketOf-lt, positionOf-lt}
+use Rattle.mixing.specs.Slots.{some-buckets}
 use Rattle.laws.specs.Steps.{steps, steps-keep, least, least-found, least-none, total, total-bump, total-same, total-zero, total-mono, greatest, greatest-above}
 use Rattle.construct.specs.Construct.{bucketsOf, tries, direct, members, group, size, settle, spot, seat, Placing, noted, placeGroup, placeSingle, placeOf, placeSize, placeDown, largest, blank, anyTwins, attemptFrom, attemptOf, slotBy, indexOf}
 use Rattle.construct.specs.Promised.{Whole}
@@ -41,10 +42,6 @@ by-name h a n = ap (λ (t : Bool). cond t (positionOf h (direct + a) n) (direct 
 pub index-by : (h : ℕ) (pilots : List ℕ) (n b : ℕ) → length pilots ≡ b → indexOf h pilots n ≡ slotBy h (getD pilots (bucketOf h b) 0) n
 unfolding indexOf
 index-by h pilots n b e = ap (λ (x : ℕ). slotBy h (getD pilots (bucketOf h x) 0) n) e
-
-pub some-buckets : (n : ℕ) → 0 < n → 0 < bucketsOf n
-unfolding bucketsOf
-some-buckets n h = omega arith
 
 -- every pilot that is tried is below the mark
 pub few : tries ≤ direct

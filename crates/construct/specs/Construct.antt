@@ -1,24 +1,18 @@
 -- Construct: keys are placed by bucket and pilot, over the list of their hashes (document 01, "Arithmetic and construction").
-use Prim.Native.Nat.{ℕ, zero, suc, _+_, _-_, _/_, _^_}
+use Prim.Native.Nat.{ℕ, zero, suc, _+_, _-_}
 use mathlib.Core.Bool.{Bool, cond}
 use mathlib.Core.List.{List, [], _∷_, _++_}
 use mathlib.Core.Option.{Option, none, some, Option·map}
 use lib.ListN.{length, getD, set, replicate}
-use lib.Dec.{eqb, ltb}
+use lib.Dec.{eqb}
 use Rattle.mixing.specs.Mixing.{bucketOf, positionOf}
 use Rattle.laws.specs.Steps.{steps, least, anyBelow, greatest}
-
--- b = n/3 rounded up
-unfoldable pub bucketsOf : ℕ → ℕ
-bucketsOf n = (n + 2) / 3
+-- the buckets of n keys, the mark of a pilot that names a slot, and the slot that a pilot gives a hash
+unfoldable pub use Rattle.mixing.specs.Slots.{bucketsOf, direct, slotBy}
 
 -- pilots 0 to 99,999 are tried
 unfoldable pub tries : ℕ
 tries = 100000
-
--- the mark of a pilot that names a slot: 2^31
-unfoldable pub direct : ℕ
-direct = 2 ^ 31
 
 -- eight seeds are tried
 unfoldable pub attempts : ℕ
@@ -117,10 +111,6 @@ attemptOf hs = attemptFrom hs (blank hs)
 -- the first of the attempts that succeeds, with its number from 0; `hashes i` are the keys' hashes under the seed of attempt i
 unfoldable pub constructOf : (ℕ → List ℕ) → Option (ℕ × Placing)
 constructOf hashes = least (λ i. attemptOf (hashes i)) attempts 0
-
--- the slot of hash h under its bucket's pilot v: named by it, or by position
-unfoldable pub slotBy : ℕ → ℕ → ℕ → ℕ
-slotBy h v n = cond (ltb v direct) (positionOf h v n) (v - direct)
 
 -- the slot in which a lookup finds hash h
 unfoldable pub indexOf : ℕ → List ℕ → ℕ → ℕ

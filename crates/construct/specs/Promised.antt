@@ -2,13 +2,11 @@
 use Prim.Native.Nat.{ℕ, suc, _+_, _-_, _<_}
 use mathlib.Core.Path.{_≡_}
 use mathlib.Core.List.{List}
-use mathlib.Core.Option.{none, some}
-use lib.ListN.{length, getD, take}
+use mathlib.Core.Option.{some}
+use lib.ListN.{length, getD}
 use Rattle.mixing.specs.Mixing.{bucketOf}
 use Rattle.laws.specs.Steps.{steps}
-use Rattle.construct.specs.Construct.{bucketsOf, tries, direct, group, size, spot, Placing, placeOf, placeDown, largest, blank, attemptOf, indexOf}
-use Rattle.construct.specs.Keys.{attemptHashes}
-use Rattle.construct.specs.Layout.{placing}
+use Rattle.construct.specs.Construct.{bucketsOf, tries, direct, group, size, spot, Placing, placeOf, placeDown, largest, blank, indexOf}
 
 -- pilot p puts the keys ms on distinct unoccupied positions
 pub record Fits (hs ms : List ℕ) (p : ℕ) (slots : List ℕ) : Type 0 where
@@ -69,11 +67,3 @@ pub record Pilots (hs pilots : List ℕ) : Type 0 where
   pub several : (k : ℕ) → k < bucketsOf (length hs) → 1 < size hs k → LeastPilot hs k (getD pilots k 0)
   pub single : (k : ℕ) → k < bucketsOf (length hs) → size hs k ≡ 1 → LowestSlot hs k (getD pilots k 0)
   pub empty : (k : ℕ) → k < bucketsOf (length hs) → size hs k ≡ 0 → getD pilots k 0 ≡ 0
-
--- what is left in the workspace where attempt i is taken: its hashes in front, and a whole placing of them
-pub record Left (arena : List ℕ) (n i : ℕ) (h w : List ℕ) : Type 0 where
-  pub low : i < 8
-  pub first : (q : ℕ) → q < i → attemptOf (attemptHashes arena n q) ≡ none
-  pub hashes : take n h ≡ attemptHashes arena n i
-  pub whole : Whole (take n h) (placing n (bucketsOf n) w)
-  pub pilots : Pilots (take n h) (placing n (bucketsOf n) w .pilots)

@@ -1,7 +1,6 @@
 // The keys of an arena, hashed one after another.
-use records::cursor::Head;
+use records::cursor::key_at;
 use records::cursor::next_entry;
-use words::field;
 ghost use mathlib.Core.Path.{_≡_};
 ghost use Prim.Native.Nat.{_≤_};
 ghost use lib.ListN.{length};
@@ -14,9 +13,7 @@ fn hash_at(arena: &[u8], p: usize, seed: u64) -> u64
     requires { ⌜ nextEntry (now arena) p ≤ length (now arena) ⌝ }
     ensures { λ r. ⌜ r ≡ hashOf seed (keyAt (now (arena .entry)) p) ⌝ }
 {
-    let start = p + Head::BYTES;
-    let end = start + (field::u32_at(arena, p) as usize);
-    mixing::hash(&arena[start..end], seed)
+    mixing::hash(key_at(arena, p), seed)
 }
 
 // Hashes the first keys of the arena under a seed, one for each place of `hashes`.

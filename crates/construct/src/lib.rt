@@ -9,7 +9,7 @@ pub mod single;
 pub mod twins;
 
 use attempt::attempt;
-use group::buckets;
+use mixing::slot::buckets;
 ghost use Rattle.construct.specs.Keys.{attemptHashes};
 ghost use Rattle.construct.specs.Layout.{Lent, Built};
 
@@ -23,8 +23,8 @@ impl Constructed {
     // The seeds that are tried.
     pub const ATTEMPTS: u64 = 8;
 
-    // The keys for which there is one bucket.
-    pub const KEYS_PER_BUCKET: usize = 3;
+    // The pilots that are tried for a bucket, from 0.
+    pub const TRIES: u32 = 100_000;
 }
 
 // Places the first n keys of the arena under the first seed that serves. Where one does, its hashes, pilots and slots are left in the workspace.

@@ -1,5 +1,5 @@
 // Buckets placed in the words of the workspace: where each bucket's keys begin, the pilots, the slots.
-use super::pilot::Pilot;
+use super::Constructed;
 use super::seat::find_pilot;
 ghost use mathlib.Core.Path.{_≡_};
 ghost use Prim.Native.Nat.{ℕ, _<_, _≤_, _+_, _-_};
@@ -18,7 +18,7 @@ fn place_group(h: &[u64], w: &mut [u32], n: usize, b: usize, k: usize) -> bool
     let e = n + (w[k + 1] as usize);
     let base = b + 1 + b;
     let p = find_pilot(&h[..n], &h[s..e], &mut w[base..base + n]);
-    if p == Pilot::TRIES {
+    if p == Constructed::TRIES {
         return false;
     }
     w[b + 1 + k] = p;

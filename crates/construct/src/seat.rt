@@ -1,5 +1,5 @@
 // One bucket's members, put into slots under a pilot.
-use super::pilot::Pilot;
+use super::Constructed;
 ghost use mathlib.Core.Path.{_≡_};
 ghost use mathlib.Core.List.{List};
 ghost use mathlib.Core.Option.{some};
@@ -78,7 +78,7 @@ pub fn find_pilot(hs: &[u64], ms: &[u64], slots: &mut [u32]) -> u32
     ensures { λ r. ⌜ Searched (now (hs .entry)) (now (ms .entry)) (now (slots .entry)) (now (slots .exit)) r ⌝ }
 {
     let mut p: u32 = 0;
-    while p < Pilot::TRIES {
+    while p < Constructed::TRIES {
         if try_pilot(hs, ms, slots, p) {
             return p;
         }

@@ -1,5 +1,5 @@
 // Buckets of one member: each takes the lowest free slot.
-use super::pilot::Pilot;
+use mixing::slot::Pilot;
 ghost use mathlib.Core.Path.{_≡_};
 ghost use Prim.Native.Nat.{ℕ, _<_, _≤_, _+_, _-_};
 ghost use lib.ListN.{length, getD, set, take};

@@ -1,6 +1,6 @@
 -- What finish makes is accepted: the body of an arena that finish takes passes validation with any data that covers its records, its table is
 -- the arena's table, and get on it is the lookup there. Assumes nothing.
-use Prim.Native.Nat.{ℕ, zero, suc, _+_, _-_, _*_, _/_, _^_, _<_, _≤_}
+use Prim.Native.Nat.{ℕ, zero, suc, _+_, _-_, _^_, _<_, _≤_}
 use native.Mathlib.Nat.{add-zero}
 use native.Mathlib.Omega.{arith}
 use mathlib.Core.Path.{_≡_, refl, sym, ap, ap₂, _∙_, subst}
@@ -10,7 +10,7 @@ use mathlib.Core.Option.{Option, none, some}
 use mathlib.Core.Logic.{⊎-elim}
 use lib.ListN.{length, getD, take, drop, List·getD-append, List·getD-eq-default}
 use lib.Seq.{drop-at, getD-append-add}
-use borrow.Author.Tests.{eq-eqb, ne-eqb, lt-ltb, le-ltb, le-leb, lt-leb}
+use borrow.Author.Tests.{eq-eqb, ne-eqb, le-ltb, lt-leb}
 use Rattle.laws.specs.Cases.{lt-or-ge}
 use Rattle.laws.specs.Each.{Each}
 use Rattle.laws.specs.Each.Each.{each-none, each-more}
@@ -20,6 +20,7 @@ use Rattle.words.specs.Part.{sameAs}
 use Rattle.words.proofs.Laws.{AllBytes, bytes-bytesOf}
 use Rattle.words.proofs.Ordered.{same-self}
 use Rattle.mixing.specs.Mixing.{hashOf, fingerprintOf, seedOf, bucketOf, bucketOf-lt, seedOf-lt}
+use Rattle.mixing.specs.Slots.{some-buckets}
 use Rattle.records.specs.declared.DataLength.the-variants.{Untested, Of}
 use Rattle.records.specs.declared.Limit.{Limit}
 use Rattle.records.specs.declared.Record.{Record}
@@ -33,9 +34,9 @@ use Rattle.construct.specs.Construct.{bucketsOf, tries, direct, size, Placing, 
 use Rattle.construct.specs.Keys.{keyOf, attemptHashes}
 use Rattle.construct.specs.Promised.{Whole, Pilots}
 use Rattle.construct.proofs.KeysLaws.{hashes-long}
-use Rattle.construct.proofs.Placed.{few, some-buckets}
+use Rattle.construct.proofs.Placed.{few}
 use Rattle.point.specs.declared.Validated.the-variants.{Accepted}
-use Rattle.point.specs.Layout.{magic, seedIn, keysIn, bucketsIn, arenaIn, dimensionRefusal, headerRefusal, pilotAt, directPast, slotNumber, pilotOf, slotOf, slotPlace, recordOffset, fingerprintWide}
+use Rattle.point.specs.Layout.{magic, slotAt, seedIn, keysIn, bucketsIn, arenaIn, dimensionRefusal, headerRefusal, pilotAt, directPast, pilotOf, slotOf, slotPlace, recordOffset, fingerprintWide}
 use Rattle.point.specs.Validate.{pilotsRefusal, validateOf}
 use Rattle.point.specs.Get.{getOf}
 use Rattle.point.specs.Table.{tableOf, keyPlace, keySlot, Belongs, answerTo}
@@ -104,24 +105,16 @@ table-in n t u h = record { entries = each-two (entry-in n) t (u .entries) h; ri
 
 -- ---- header and pilots
 
-dimensions-fine : (total n b start : ℕ) → 0 < n → n < 2147483648 → b ≡ (n + 2) / 3 → start ≡ 32 + 4 * b + 12 * n → start < total → 0 ≡ dimensionRefusal total n b start
+dimensions-fine : (total n b start : ℕ) → 0 < n → n < 2147483648 → b ≡ bucketsOf n → start ≡ slotAt b n → start < total → 0 ≡ dimensionRefusal total n b start
 unfolding dimensionRefusal
 dimensions-fine total n b start h1 h2 e1 e2 h3 =
     let ne : n ≡ 0 → ⊥ = λ z. omega arith in
-    rw (ne-eqb n 0 ne, lt-leb 2147483648 n h2, eq-eqb b ((n + 2) / 3) e1, eq-eqb start (32 + 4 * b + 12 * n) e2, lt-leb total start h3)
+    rw (ne-eqb n 0 ne, lt-leb 2147483648 n h2, eq-eqb b (bucketsOf n) e1, eq-eqb start (slotAt b n) e2, lt-leb total start h3)
 
 pilots-fine : (body : List ℕ) (n i k : ℕ) → ((j : ℕ) → j < i + k → directPast n (pilotAt body j) ≡ false) → pilotsRefusal body n i k ≡ 0
 unfolding pilotsRefusal
 pilots-fine body n i zero h = refl
 pilots-fine body n i (suc k) h = ap (λ (t : Bool). cond t 22 (pilotsRefusal body n (suc i) k)) (h i (omega arith)) ∙ pilots-fine body n (suc i) k (λ j l. h j (omega arith))
-
--- the slot that a pilot gives, in both words
-slot-same : (n v h : ℕ) → slotNumber n v h ≡ slotBy h v n
-unfolding slotNumber slotBy direct
-slot-same n v h =
-    ⊎-elim (λ (l : v < 2147483648). rw (lt-leb 2147483648 v l, lt-ltb v 2147483648 l))
-    (λ (l : 2147483648 ≤ v). rw (le-leb 2147483648 v l, le-ltb v 2147483648 l))
-    (lt-or-ge v 2147483648)
 
 -- every pilot of an attempt is below 2^31 + n
 pilot-low : (hs pilots : List ℕ) → Pilots hs pilots → (k : ℕ) → k < bucketsOf (length hs) → getD pilots k 0 < 2147483648 + length hs
@@ -292,8 +285,7 @@ module _ (arena : List ℕ) (out : ℕ) (M : Made arena out) (all : AllBytes are
   unfolding pilotOf indexOf
   slot-of h =
       let low : bucketOf h (bucketsOf n) < bucketsOf n = bucketOf-lt h (bucketsOf n) (some-buckets n any-key) in
-      ap₂ (λ (x y : ℕ). slotNumber x y h) keys-of (ap (λ (x : ℕ). pilotAt body (bucketOf h x)) buckets-of ∙ pilot-at (bucketOf h (bucketsOf n)) low .0)
-      ∙ slot-same n (getD (M .placing .pilots) (bucketOf h (bucketsOf n)) 0) h
+      ap₂ (λ (x y : ℕ). slotBy h y x) keys-of (ap (λ (x : ℕ). pilotAt body (bucketOf h x)) buckets-of ∙ pilot-at (bucketOf h (bucketsOf n)) low .0)
       ∙ ap (λ (x : ℕ). slotBy h (getD (M .placing .pilots) (bucketOf h x) 0) n) (sym pilots-many)
 
   -- slot s holds key j

@@ -8,17 +8,16 @@ use mathlib.Core.List.{List, _++_, flatMap, append-assoc}
 use lib.ListN.{length, getD, set, take, drop, length-append, length-drop}
 use lib.Seq.{getD-set-same, getD-set-other, length-take-le}
 use Rattle.words.specs.Field.{bytesOf, splice}
-use Rattle.words.proofs.Laws.{length-bytesOf}
+use Rattle.words.proofs.Laws.{length-bytesOf, splice-then}
 use Rattle.mixing.specs.Mixing.{fingerprintOf}
-use Rattle.records.specs.Places.{nextEntry, entryPlace}
+use Rattle.mixing.specs.Slots.{few-buckets}
+use Rattle.records.specs.Places.{entryPlace}
 use Rattle.construct.specs.Construct.{bucketsOf, Placing}
-use Rattle.construct.specs.Keys.{Entries}
 use Rattle.construct.specs.Layout.{placing}
-use Rattle.construct.proofs.KeysLaws.{entry-rises}
 use Rattle.point.specs.Layout.{magic}
 use Rattle.finish.specs.Body.{arenaStart, headerBytes, pilotsBytes, slotBytes, heldSlot, slotsBytes, bodyBytes}
 use Rattle.finish.specs.Needs.{Room, Listed, listedSlot, Filled, Written}
-use Rattle.finish.proofs.RowLaws.{splice-then, flat-same, flat-long}
+use Rattle.finish.proofs.RowLaws.{flat-same, flat-long}
 
 -- ---- lengths
 
@@ -54,10 +53,6 @@ body-long arena n seed pl ep es = simp (length-append, header-long, pilots-long,
 pub start-is : (n b : ℕ) → b ≡ bucketsOf n → arenaStart n ≡ 32 + 4 * b + 12 * n
 unfolding arenaStart
 start-is n b e = omega arith
-
-pub few-buckets : (n : ℕ) → bucketsOf n ≤ n
-unfolding bucketsOf
-few-buckets n = omega arith
 
 -- ---- parts written one after another
 
@@ -111,10 +106,6 @@ slots-listed arena h h′ w n seed L W slots F = flat-same (listedSlot h′ n) (
         let m = getD slots s 0 - 1 in
         let low : m < n = omega (arith, F .filled s l, F .keys s l) in
         ap₂ slotBytes (L .places m low) (ap fingerprintOf (L .hashes m low ∙ W .hashes m low))
-
--- entry i lies inside the arena, where i is less than the n that do
-pub entry-inside : (arena : List ℕ) (n i p : ℕ) → Entries arena n → p ≡ entryPlace arena 0 i → i < n → nextEntry arena p ≤ length arena
-entry-inside arena n i p E e l = subst (λ (x : ℕ). nextEntry arena x ≤ length arena) (sym e) (omega (arith, entry-rises arena i n l, E))
 
 -- ---- parts of the words of 32 bits
 

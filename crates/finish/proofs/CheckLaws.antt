@@ -7,7 +7,7 @@ use mathlib.Core.List.{List}
 use lib.Dec.{eqb, ltb}
 use lib.ListN.{length, getD}
 use borrow.Author.Tests.{ltb-false, eqb-true, eqb-false, not-false, lt-ltb, le-ltb, eq-eqb, ne-eqb}
-use Rattle.laws.specs.Steps.{anyBelow, any-some}
+use Rattle.laws.specs.Steps.{any-false}
 use Rattle.construct.specs.Construct.{indexOf}
 use Rattle.finish.specs.Finish.{unmatched, unmatchedAt, mismatch}
 use Rattle.finish.specs.Needs.{Filled}
@@ -43,14 +43,6 @@ module _ (hs pilots : List ℕ) (n s held : ℕ) where
       neither : (a b : Bool) → (a || b) ≡ false → (a ≡ false) × (b ≡ false)
       neither true b e = absurd (false≢true (sym e))
       neither false b e = (refl, e)
-
--- a test that no number below n passes
-pub any-false : (test : ℕ → Bool) (n i : ℕ) → anyBelow test n ≡ false → i < n → test i ≡ false
-any-false test n i h l = go (test i) refl
-  where
-    go : (b : Bool) → test i ≡ b → b ≡ false
-    go true e = absurd (false≢true (sym h ∙ any-some test i n l e))
-    go false e = refl
 
 -- the test of a slot by what was read of it
 pub unmatched-at : (hs pilots slots : List ℕ) (n s : ℕ) (r : Bool) → n ≡ length slots → r ≡ unmatched hs pilots n s (getD slots s 0) → unmatchedAt hs pilots slots s ≡ r

@@ -9,13 +9,14 @@ use Rattle.words.specs.Field.{bytesOf}
 use Rattle.words.proofs.Laws.{length-bytesOf, bytesOf-append}
 use Rattle.words.proofs.WrittenLaws.{le-written}
 use Rattle.mixing.specs.Mixing.{hashOf, fingerprintOf, fingerprintOf-lt}
+use Rattle.mixing.specs.Slots.{few-buckets}
 use Rattle.records.specs.Places.{entryPlace}
 use Rattle.construct.specs.Construct.{bucketsOf, Placing}
 use Rattle.construct.specs.Keys.{keyOf}
 use Rattle.point.specs.Layout.{magic, seedIn, keysIn, bucketsIn, arenaIn, pilotAt, slotPlace, recordOffset, fingerprintWide}
 use Rattle.finish.specs.Body.{arenaStart, headerBytes, pilotsBytes, slotBytes, heldSlot, slotsBytes, bodyBytes}
 use Rattle.finish.proofs.RowLaws.{flat-split, flat-long}
-use Rattle.finish.proofs.BodyLaws.{header-long, held-long, pilots-long, slots-long, few-buckets, start-is}
+use Rattle.finish.proofs.BodyLaws.{header-long, held-long, pilots-long, slots-long, start-is}
 
 -- a fingerprint and the zero behind it are one number of 32 bits
 wide-print : (v : ℕ) → v < 2 ^ 16 → bytesOf 4 v ≡ bytesOf 2 v ++ bytesOf 2 0

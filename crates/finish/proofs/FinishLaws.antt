@@ -17,6 +17,7 @@ use Rattle.laws.specs.Refusals.Numbered.{numbered-none, numbered-more}
 use Rattle.laws.specs.RefusalLaws.{orElse-stop}
 use Rattle.words.specs.Field.{splice}
 use Rattle.mixing.specs.Mixing.{hashOf, seedOf}
+use Rattle.mixing.specs.Slots.{few-buckets}
 use Rattle.construct.specs.Construct.{bucketsOf, Placing, constructOf}
 use Rattle.construct.specs.Keys.{keyOf, hashesOf, attemptHashes}
 use Rattle.records.specs.declared.DataLength.the-variants.{Untested}
@@ -37,7 +38,6 @@ use Rattle.finish.specs.Finish.{lengthCauses, placingCauses, lengthRefus
 use Rattle.finish.specs.Needs.{Room, Chosen, Built, Written, Filled}
 use Rattle.finish.proofs.LengthLaws.{Lengths, lengths}
 use Rattle.finish.proofs.CheckLaws.{all-filled}
-use Rattle.finish.proofs.BodyLaws.{few-buckets}
 
 -- ---- the refusals in a row
 

@@ -8,11 +8,7 @@ use mathlib.Core.List.{List, [], _∷_, _++_, flatMap, append-nil, append-assoc}
 use lib.ListN.{length, getD, take, drop, length-append, take-append-drop}
 use lib.Seq.{take-suc, length-take-le, split-at}
 use Rattle.words.specs.Field.{splice}
-use Rattle.words.proofs.Laws.{splice-splice}
-
--- a part put right behind another makes one part with it
-pub splice-then : (xs : List ℕ) (at : ℕ) (ys : List ℕ) (to : ℕ) (zs : List ℕ) → at + length ys ≤ length xs → to ≡ at + length ys → splice (splice xs at ys) to zs ≡ splice xs at (ys ++ zs)
-splice-then xs at ys to zs h e = ap (λ (x : ℕ). splice (splice xs at ys) x zs) e ∙ splice-splice xs at ys h zs
+use Rattle.words.proofs.Laws.{splice-then}
 
 pub splice-none : (xs : List ℕ) (at : ℕ) → splice xs at [] ≡ xs
 unfolding splice

@@ -2,12 +2,12 @@
 use Prim.Native.Nat.{ℕ, suc, _-_, _<_}
 use native.Mathlib.Omega.{arith}
 use mathlib.Core.Path.{_≡_, refl, sym, ap, _∙_, subst}
-use mathlib.Core.Bool.{Bool, true, false, false≢true}
+use mathlib.Core.Bool.{false}
 use mathlib.Core.List.{List}
 use mathlib.Core.Option.{some}
 use lib.ListN.{length, getD}
 use borrow.Author.Tests.{le-ltb, eq-eqb, ne-eqb}
-use Rattle.laws.specs.Steps.{anyBelow, any-why}
+use Rattle.laws.specs.Steps.{none-passes}
 use Rattle.construct.specs.Construct.{Placing, indexOf}
 use Rattle.construct.specs.Keys.{attemptHashes}
 use Rattle.construct.specs.Promised.{Whole, Pilots}
@@ -15,14 +15,6 @@ use Rattle.construct.proofs.KeysLaws.{hashes-long}
 use Rattle.construct.proofs.Exhausting.{taken-whole}
 use Rattle.finish.specs.Body.{placedOf}
 use Rattle.finish.specs.Finish.{unmatched, unmatchedAt, mismatch}
-
--- a test that no number below n passes
-any-none-of : (test : ℕ → Bool) (n : ℕ) → ((i : ℕ) → i < n → test i ≡ false) → anyBelow test n ≡ false
-any-none-of test n h = go (anyBelow test n) refl
-  where
-    go : (b : Bool) → anyBelow test n ≡ b → b ≡ false
-    go true e = let w = any-why test n e in absurd (false≢true (sym (h (w .0) (w .1)) ∙ w .2))
-    go false e = refl
 
 -- a slot that holds a key whose index it is
 slot-passes : (hs pilots : List ℕ) (n s held m : ℕ) → held ≡ suc m → m < n → indexOf (getD hs m 0) pilots n ≡ s → unmatched hs pilots n s held ≡ false
@@ -36,7 +28,7 @@ slot-passes hs pilots n s held m e l q =
 -- the slots of a whole placing
 pub whole-matched : (hs : List ℕ) (pl : Placing) → Whole hs pl → mismatch hs (pl .pilots) (pl .slots) ≡ false
 unfolding mismatch unmatchedAt
-whole-matched hs pl W = any-none-of (unmatchedAt hs (pl .pilots) (pl .slots)) (length (pl .slots)) each
+whole-matched hs pl W = none-passes (unmatchedAt hs (pl .pilots) (pl .slots)) (length (pl .slots)) each
   where
     each : (s : ℕ) → s < length (pl .slots) → unmatched hs (pl .pilots) (length (pl .slots)) s (getD (pl .slots) s 0) ≡ false
     each s l =

@@ -1,5 +1,5 @@
 -- The body that finish writes (document 01, "Layouts").
-use Prim.Native.Nat.{ℕ, _+_, _-_, _*_}
+use Prim.Native.Nat.{ℕ, _-_}
 use mathlib.Core.List.{List, [], _++_, flatMap}
 use mathlib.Core.Option.{Option, none, some}
 use Rattle.words.specs.Field.{bytesOf}
@@ -7,11 +7,11 @@ use Rattle.mixing.specs.Mixing.{hashOf, fingerprintOf, seedOf}
 use Rattle.records.specs.Places.{entryPlace}
 use Rattle.construct.specs.Construct.{bucketsOf, Placing, constructOf}
 use Rattle.construct.specs.Keys.{keyOf, attemptHashes}
-use Rattle.point.specs.Layout.{magic}
+use Rattle.point.specs.Layout.{magic, slotAt}
 
 -- arena start = 32 + 4b + 12n
 unfoldable pub arenaStart : ℕ → ℕ
-arenaStart n = 32 + 4 * bucketsOf n + 12 * n
+arenaStart n = slotAt (bucketsOf n) n
 
 -- `KIBANPH2`, u64 seed, u32 n, u32 b, u64 arena start
 unfoldable pub headerBytes : (seed n : ℕ) → List ℕ

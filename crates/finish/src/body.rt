@@ -1,6 +1,7 @@
 // The body's bytes: header, pilots, slots, arena.
-use construct::group::buckets;
+use mixing::slot::buckets;
 use point::Header;
+use point::slot_at;
 use records::cursor;
 use words::field;
 use words::part;
@@ -20,7 +21,7 @@ pub fn arena_start(n: usize) -> usize
     requires { ⌜ n ≤ 65536 ⌝ }
     ensures { λ r. ⌜ r ≡ arenaStart n ⌝ }
 {
-    Header::BYTES + 4 * buckets(n) + Header::SLOT * n
+    slot_at(buckets(n), n)
 }
 
 // Writes the header of n keys under a seed.
@@ -44,7 +45,7 @@ fn write_pilots(out: &mut [u8], at: usize, pilots: &[u32])
 {
     let mut i = 0;
     while i < pilots.len() {
-        field::put_u32(out, at + 4 * i, pilots[i]);
+        field::put_u32(out, at + Header::PILOT * i, pilots[i]);
         i += 1;
     }
 }
@@ -68,7 +69,12 @@ fn write_slots(out: &mut [u8], at: usize, h: &[u64], slots: &[u32])
     let mut s = 0;
     while s < n {
         let m = slots[s] as usize - 1;
-        write_slot(out, at + 12 * s, h[n + m], mixing::fingerprint(h[m]));
+        write_slot(
+            out,
+            at + Header::SLOT * s,
+            h[n + m],
+            mixing::fingerprint(h[m]),
+        );
         s += 1;
     }
 }
@@ -107,6 +113,6 @@ pub fn write_body(arena: &[u8], out: &mut [u8], h: &mut [u64], w: &[u32], n: usi
     let end = slots + n;
     list_places(arena, h, n);
     write_front(out, n, seed, &w[pilots..slots]);
-    write_slots(out, Header::BYTES + 4 * b, h, &w[slots..end]);
+    write_slots(out, Header::BYTES + Header::PILOT * b, h, &w[slots..end]);
     part::copy_at(out, arena_start(n), arena);
 }

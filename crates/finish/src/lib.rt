@@ -3,7 +3,8 @@ pub mod body;
 pub mod check;
 
 use construct::Constructed;
-use construct::group::buckets;
+use mixing::slot::buckets;
+use records::Arena;
 use records::DataLength;
 use records::walk::walk;
 use words::part;
@@ -19,7 +20,7 @@ pub enum Finished {
 
 impl Finished {
     // The most keys that finish takes.
-    pub const MAX_KEYS: usize = 65_536;
+    pub const MAX_KEYS: usize = Arena::MAX_KEYS;
 }
 
 // 8, 5, 9, 6 or 0: an arena of `size` bytes whose walk passed n keys and came to `end`, and the lengths of what is lent.

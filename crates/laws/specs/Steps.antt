@@ -1,7 +1,7 @@
 -- Loops as functions: steps that can fail, taken one after another; the least number that succeeds; whether a number below a bound passes a test; sums and the greatest value.
 use Prim.Native.Nat.{ℕ, zero, suc, _+_, _-_, _≤_, _<_, max}
 use mathlib.Core.Path.{_≡_, refl, sym, ap, _∙_, subst}
-use mathlib.Core.Bool.{Bool, true, false, _||_, false≢true}
+use mathlib.Core.Bool.{Bool, true, false, _||_, false≢true, or-true}
 use mathlib.Core.Option.{Option, none, some, bind, bind-eq-some-iff, Option·some-injective, Option·some-ne-none, Option·none-ne-some}
 use native.Mathlib.Nat.{zero-add, suc-add, add-zero}
 use native.Mathlib.Omega.{arith}
@@ -156,27 +156,14 @@ module _ (test : ℕ → Bool) where
   unfolding anyBelow
   any-none = refl
 
-  pub any-stays : (n : ℕ) → anyBelow test n ≡ true → (d : ℕ) → anyBelow test (d + n) ≡ true
-  unfolding anyBelow
-  any-stays n h zero = ap (anyBelow test) (zero-add n) ∙ h
-  any-stays n h (suc d) = ap (anyBelow test) (suc-add d n) ∙ ap (λ (x : Bool). x || test (d + n)) (any-stays n h d)
-
-  -- a number that passes, and one that does not
-  pub any-hit : (i n : ℕ) → i < n → test i ≡ true → anyBelow test i ≡ false → anyBelow test n ≡ true
-  any-hit i n l h w = ap (anyBelow test) (omega arith) ∙ any-stays (suc i) (any-more i w ∙ h) (n - suc i)
-
   -- a number that passes, wherever it is, and the one that did
   pub any-some : (i n : ℕ) → i < n → test i ≡ true → anyBelow test n ≡ true
   unfolding anyBelow
   any-some i zero l h = absurd (omega arith)
   any-some i (suc n) l h = go (ℕ-discrete i n) (λ lt. any-some i n lt h)
     where
-      always : (b : Bool) → (b || true) ≡ true
-      always true = refl
-      always false = refl
-
       go : Dec (i ≡ n) → (i < n → anyBelow test n ≡ true) → (anyBelow test n || test n) ≡ true
-      go (yes e) rest = ap (λ (x : Bool). anyBelow test n || x) (ap test (sym e) ∙ h) ∙ always (anyBelow test n)
+      go (yes e) rest = ap (λ (x : Bool). anyBelow test n || x) (ap test (sym e) ∙ h) ∙ or-true (anyBelow test n)
       go (no e) rest = ap (λ (x : Bool). x || test n) (rest (lt-of-le-of-ne (omega arith) e))
 
   pub any-why : (n : ℕ) → anyBelow test n ≡ true → (i : ℕ) × (i < n) × (test i ≡ true)
@@ -187,6 +174,21 @@ module _ (test : ℕ → Bool) where
       go : (b : Bool) → anyBelow test n ≡ b → (anyBelow test n ≡ true → (i : ℕ) × (i < n) × (test i ≡ true)) → (b || test n) ≡ true → (i : ℕ) × (i < suc n) × (test i ≡ true)
       go true e rest z = (rest e .0, omega (arith, rest e .1), rest e .2)
       go false e rest z = (n, omega arith, z)
+
+  -- where none passes, each fails, and back
+  pub any-false : (n i : ℕ) → anyBelow test n ≡ false → i < n → test i ≡ false
+  any-false n i h l = go (test i) refl
+    where
+      go : (b : Bool) → test i ≡ b → b ≡ false
+      go true e = absurd (false≢true (sym h ∙ any-some i n l e))
+      go false e = refl
+
+  pub none-passes : (n : ℕ) → ((i : ℕ) → i < n → test i ≡ false) → anyBelow test n ≡ false
+  none-passes n h = go (anyBelow test n) refl
+    where
+      go : (b : Bool) → anyBelow test n ≡ b → b ≡ false
+      go true e = let w = any-why n e in absurd (false≢true (sym (h (w .0) (w .1)) ∙ w .2))
+      go false e = refl
 
   pub any-miss : (i : ℕ) → test i ≡ false → anyBelow test i ≡ false → anyBelow test (i + 1) ≡ false
   any-miss i h w = ap (anyBelow test) (add-one i) ∙ any-more i w ∙ h

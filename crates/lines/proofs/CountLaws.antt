@@ -9,13 +9,13 @@ use mathlib.Core.Option.{Option, none, some}
 use lib.Dec.{ltb}
 use lib.ListN.{length}
 use borrow.Author.Tests.{ne-eqb}
-use Rattle.text.specs.Text.{digitsIn, decimal, hexDigit, hexOf, keyText, field, named}
+use Rattle.text.specs.Text.{digitsIn, decimal, hexDigit, hexOf, keyText, field}
 use Rattle.records.specs.declared.Kind.{Kind}
 use Rattle.records.specs.declared.Kind.the-variants.{Put, Tombstone}
 use Rattle.records.specs.declared.Record.{Record}
 use Rattle.records.specs.Model.{Entry}
 use Rattle.lines.specs.Shown.{Rule, shown, shownOne, shownCount}
-use Rattle.lines.specs.Listing.{limitWord, keysWord, shownWord, kindWord, newline, lineCount, recordText, lineOf, lineFor, linesOf, headerOf, tableText}
+use Rattle.lines.specs.Listing.{kindWord, newline, lineCount, recordText, lineOf, lineFor, linesOf}
 
 count-append : (xs ys : List ℕ) → lineCount (xs ++ ys) ≡ lineCount xs + lineCount ys
 unfolding lineCount
@@ -47,10 +47,6 @@ count-digits (suc k) n = go (ltb n 10) (count-digits k (n / 10))
 count-field : (n : ℕ) → lineCount (field n) ≡ 0
 unfolding field decimal lineCount
 count-field n = omega (arith, count-digits (suc n) n)
-
-count-named : (word : List ℕ) (n : ℕ) → lineCount (named word n) ≡ lineCount word
-unfolding named
-count-named word n = omega (arith, count-append word (field n), count-field n)
 
 digit-high : (d : ℕ) → 48 ≤ hexDigit d
 digit-high d = go (ltb d 10)
@@ -112,23 +108,3 @@ lines-counted rule limit [] = empty-count
 lines-counted rule limit (e ∷ es) =
     omega
     (arith, count-append (lineFor (e .key) (shown rule limit e)) (linesOf rule limit es), count-for (e .key) (shown rule limit e), lines-counted rule limit es)
-
-words-counted : (lineCount limitWord ≡ 0) × (lineCount keysWord ≡ 0) × (lineCount shownWord ≡ 0)
-unfolding lineCount
-words-counted = (refl, refl, refl)
-
-count-header : (limit keys count : ℕ) → lineCount (headerOf limit keys count) ≡ 1
-unfolding headerOf
-count-header limit keys count =
-    let e₀ = count-append (named limitWord limit) (named keysWord keys ++ (named shownWord count ++ newline)) in
-    let e₁ = count-append (named keysWord keys) (named shownWord count ++ newline) in
-    let e₂ = count-append (named shownWord count) newline in
-    omega
-    (arith, count-named limitWord limit, count-named keysWord keys, count-named shownWord count, words-counted .0, words-counted .1, words-counted .2, count-newline)
-
--- THEOREM: and the listing has one line more, the header
-pub listing-counted : (rule : Rule) (limit : ℕ) (t : List Entry) → lineCount (tableText rule limit t) ≡ 1 + shownCount rule limit t
-unfolding tableText
-listing-counted rule limit t =
-    omega
-    (arith, count-append (headerOf limit (length t) (shownCount rule limit t)) (linesOf rule limit t), count-header limit (length t) (shownCount rule limit t), lines-counted rule limit t)

@@ -1,27 +1,24 @@
 -- How long a listing is: a line is at most twice as long as its entry's bytes, and the header at most 80 bytes. Assumes nothing.
 use Prim.Native.Nat.{ℕ, _+_, _*_, _^_, _<_, _≤_}
 use native.Mathlib.Omega.{arith}
-use mathlib.Core.Path.{_≡_, refl, _∙_}
+use mathlib.Core.Path.{_≡_, refl}
 use mathlib.Core.Bool.{Bool, true, false, cond}
-use mathlib.Core.List.{List, [], _∷_, _++_, append-nil, List·Memᴰ}
-use mathlib.Core.List.List·Memᴰ.{List·Memᴰ·head, List·Memᴰ·tail}
+use mathlib.Core.List.{List, [], _∷_, _++_}
 use mathlib.Core.Option.{Option, none, some}
 use lib.ListN.{length, length-append}
 use Rattle.laws.specs.Each.{Each}
 use Rattle.laws.specs.Each.Each.{each-more}
-use Rattle.words.specs.Part.{sameAs}
 use Rattle.text.specs.Text.{decimal, keyText, field, named}
 use Rattle.text.proofs.TextLaws.{decimal-length, decimal-short, key-length}
 use Rattle.records.specs.declared.DataLength.{DataLength}
 use Rattle.records.specs.declared.Kind.{Kind}
 use Rattle.records.specs.declared.Kind.the-variants.{Put, Tombstone}
-use Rattle.records.specs.declared.Limit.{Limit}
 use Rattle.records.specs.declared.Limit.the-variants.{UpTo}
 use Rattle.records.specs.declared.Record.{Record}
-use Rattle.records.specs.Model.{Entry, entryBytes, tableBytes, recordsOf, greatest, lookup}
+use Rattle.records.specs.Model.{Entry, entryBytes, tableBytes, greatest}
 use Rattle.records.specs.Tables.{RecordRules, EntryRules}
+use Rattle.records.proofs.ModelLaws.{greatest-has}
 use Rattle.records.proofs.WriteLaws.{entry-size}
-use Rattle.point.proofs.LookupLaws.{lookup-some}
 use Rattle.lines.specs.Shown.{Rule, shown, shownCount}
 use Rattle.lines.specs.Listing.{limitWord, keysWord, shownWord, kindWord, newline, recordText, lineOf, lineFor, linesOf, headerOf, tableText}
 use Rattle.lines.proofs.ShownLaws.{shown-few}
@@ -29,29 +26,13 @@ use Rattle.lines.proofs.TextLaws.{named-length}
 
 -- ---- a record that is shown is one of the entry's
 
-each-of : {A : Type 0} {P : A → Type 0} (xs : List A) (x : A) → Each P xs → List·Memᴰ x xs → P x
-each-of {A} {P} (y ∷ ys) x (each-more p ps) (List·Memᴰ·head e) = rw e p
-each-of {A} {P} (y ∷ ys) x (each-more p ps) (List·Memᴰ·tail m) = each-of ys x ps m
-
-greatest-one : (limit : Limit) (rs : List Record) → lookup (record { key = []; versions = rs } ∷ []) [] limit ≡ greatest limit rs
-unfolding lookup recordsOf sameAs
-greatest-one limit rs = rw append-nil
-
-one-records : (rs : List Record) → recordsOf (record { key = []; versions = rs } ∷ []) [] ≡ rs
-unfolding recordsOf sameAs
-one-records rs = append-nil rs
-
-pub greatest-of : {P : Record → Type 0} (limit : Limit) (rs : List Record) (r : Record) → Each P rs → greatest limit rs ≡ some r → P r
-greatest-of limit rs r u e =
-    each-of rs r u (rw (one-records rs) at (lookup-some (record { key = []; versions = rs } ∷ []) [] limit r (greatest-one limit rs ∙ e) .among))
-
 pub shown-of : {P : Record → Type 0} (rule : Rule) (limit : ℕ) (e : Entry) (r : Record) → Each P (e .versions) → shown rule limit e ≡ some r → P r
 unfolding shown
 shown-of {P} rule limit e r u q = go (rule limit e) q
   where
     go : (b : Bool) → cond b none (greatest (UpTo limit) (e .versions)) ≡ some r → P r
     go true f = absurd (let z : _≡_ {A = ℕ} 0 1 = cc in omega arith)
-    go false f = greatest-of (UpTo limit) (e .versions) r u f
+    go false f = greatest-has (UpTo limit) (e .versions) r u f
 
 -- ---- a line
 

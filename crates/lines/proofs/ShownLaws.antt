@@ -1,21 +1,20 @@
 -- What a whole entry shows, by what the searches over its versions find. Assumes nothing.
-use Prim.Native.Nat.{ℕ, _+_, _-_, _≤_}
-use native.Mathlib.Nat.{add-sub-cancel-left}
+use Prim.Native.Nat.{ℕ, _≤_}
 use native.Mathlib.Omega.{arith}
 use mathlib.Core.Path.{_≡_, refl, sym, ap, _∙_}
 use mathlib.Core.Bool.{true, false}
 use mathlib.Core.List.{List, [], _∷_}
 use mathlib.Core.Option.{Option, none, some}
-use lib.ListN.{length, take, drop}
+use lib.ListN.{length}
 use Rattle.words.proofs.Laws.{AllBytes}
 use Rattle.records.specs.declared.DataLength.the-variants.{Of}
 use Rattle.records.specs.declared.Limit.{Limit}
 use Rattle.records.specs.declared.Limit.the-variants.{None, UpTo}
 use Rattle.records.specs.declared.Record.{Record}
 use Rattle.records.specs.declared.Within.{Within}
-use Rattle.records.specs.declared.Within.the-variants.{Found, Nothing, Damaged}
+use Rattle.records.specs.declared.Within.the-variants.{Found, Nothing}
 use Rattle.records.specs.Model.{Entry, limitOf, greatest}
-use Rattle.records.specs.Places.{keyLength, versionCount, keyAt, firstVersion, versionsFrom, entryAt}
+use Rattle.records.specs.Places.{versionCount, firstVersion, versionsFrom, entryAt}
 use Rattle.records.specs.Within.{firstWithin, foundOf}
 use Rattle.records.proofs.WithinLaws.{search-greatest}
 use Rattle.lines.specs.Shown.{Rule, tombstoneIn, newestTombstone, shown, shownOne, shownCount}
@@ -31,10 +30,6 @@ found-some (some s) r e = cc
 pub found-none : (o : Option Record) → foundOf o ≡ Nothing → o ≡ none
 found-none none e = refl
 found-none (some s) e = absurd (let z : _≡_ {A = ℕ} 0 1 = cc in omega arith)
-
-pub found-whole : (o : Option Record) → foundOf o ≡ Damaged → ⊥
-found-whole none e = let z : _≡_ {A = ℕ} 0 1 = cc in omega arith
-found-whole (some s) e = let z : _≡_ {A = ℕ} 0 1 = cc in omega arith
 
 tombstone-of : (o : Option Record) → tombstoneFound (foundOf o) ≡ tombstoneIn o
 tombstone-of none = refl
@@ -60,11 +55,6 @@ module _ (body : List ℕ) (limit p first count : ℕ) (all : AllBytes body) (s 
     pub shown-found : tombstoneFound newest ≡ false → (w : Within) → w ≡ firstWithin body limit first count → w ≡ foundOf (shown newestTombstone limit (entryAt body p))
     unfolding shown entryAt
     shown-found t w e = rw (ruled ∙ t) (e ∙ searched (UpTo limit))
-
--- the key, as it is cut out
-pub key-part : (body : List ℕ) (p n : ℕ) → n ≡ keyLength body p → take (p + 8 + n - (p + 8)) (drop (p + 8) body) ≡ entryAt body p .key
-unfolding entryAt keyAt
-key-part body p n e = rw (add-sub-cancel-left, e)
 
 -- ---- how many
 

@@ -10,19 +10,15 @@ use mathlib.Core.List.List·Memᴰ.{List·Memᴰ·head, List·Memᴰ·tail}
 use mathlib.Core.Option.{Option, none, some}
 use lib.ListN.{length}
 use borrow.Author.Tests.{le-leb}
-use Rattle.words.specs.declared.part.Order.the-variants.{Less, Equal}
-use Rattle.words.specs.Part.{orderOf, sameAs}
-use Rattle.words.proofs.Laws.{AllBytes}
-use Rattle.words.proofs.Ordered.{same-self, same-equal, order-self, order-trans}
+use Rattle.words.specs.declared.part.Order.the-variants.{Less}
+use Rattle.words.specs.Part.{orderOf}
+use Rattle.words.proofs.Ordered.{same-self, order-apart, order-trans}
 use Rattle.records.specs.declared.Limit.{Limit}
 use Rattle.records.specs.declared.Limit.the-variants.{None, UpTo}
 use Rattle.records.specs.declared.Record.{Record}
 use Rattle.records.specs.Model.{Entry, recordsOf, greatest, lookup, Rises}
-use Rattle.records.specs.Model.Rises.{rises-none, rises-one, rises-more}
-use Rattle.point.specs.declared.Validated.the-variants.{Accepted}
-use Rattle.point.specs.Validate.{validateOf}
-use Rattle.point.specs.Table.{tableOf}
-use Rattle.point.proofs.SlotLaws.{holds-table}
+use Rattle.records.specs.Model.Rises.{rises-more}
+use Rattle.records.proofs.ModelLaws.{rises-rest, records-behind}
 use Rattle.lines.specs.declared.Listed.{Listed}
 use Rattle.lines.specs.declared.Listed.the-variants.{Text}
 use Rattle.lines.specs.Shown.{Rule, tombstoneIn, newestTombstone, shown, Shows, showsFor, shownOf, ShownRise, shownOne, shownCount}
@@ -31,38 +27,14 @@ use Rattle.lines.specs.Listing.{lineOf, lineFor, linesOf, textOfShown, t
 
 -- ---- a key's records in a table whose keys rise are its entry's
 
-rises-rest : (e : Entry) (es : List Entry) → Rises (e ∷ es) → Rises es
-rises-rest e [] g = rises-none
-rises-rest e (f ∷ es) (rises-more b g) = g
-
 rises-below : (e : Entry) (es : List Entry) (f : Entry) → Rises (e ∷ es) → List·Memᴰ f es → orderOf (e .key) (f .key) ≡ Less
 rises-below e (x ∷ es) f (rises-more b g) (List·Memᴰ·head q) = ap (λ (y : Entry). orderOf (e .key) (y .key)) q ∙ b
 rises-below e (x ∷ es) f (rises-more b g) (List·Memᴰ·tail m) = order-trans (e .key) (x .key) (f .key) b (rises-below x es f g m)
 
-apart : (a b : List ℕ) → (orderOf a b ≡ Less → sameAs a b ≡ false) × (orderOf a b ≡ Less → sameAs b a ≡ false)
-apart a b = (λ l. one (sameAs a b) refl l, λ l. other (sameAs b a) refl l)
-  where
-    one : (t : Bool) → sameAs a b ≡ t → orderOf a b ≡ Less → t ≡ false
-    one true e l = absurd (let q = same-equal a b e in let o : orderOf a b ≡ Equal = ap (orderOf a) (sym q) ∙ order-self a in let z : _≡_ {A = ℕ} 0 1 = cc in omega arith)
-    one false e l = refl
-
-    other : (t : Bool) → sameAs b a ≡ t → orderOf a b ≡ Less → t ≡ false
-    other true e l = absurd (let q = same-equal b a e in let o : orderOf a b ≡ Equal = ap (orderOf a) q ∙ order-self a in let z : _≡_ {A = ℕ} 0 1 = cc in omega arith)
-    other false e l = refl
-
-none-behind : (e : Entry) (es : List Entry) → Rises (e ∷ es) → recordsOf es (e .key) ≡ []
-unfolding recordsOf
-none-behind e [] g = refl
-none-behind e (f ∷ es) (rises-more b g) = rw (apart (e .key) (f .key) .1 b) (none-behind e es (skip es g))
-  where
-    skip : (xs : List Entry) → Rises (f ∷ xs) → Rises (e ∷ xs)
-    skip [] h = rises-one
-    skip (x ∷ xs) (rises-more c h) = rises-more (order-trans (e .key) (f .key) (x .key) b c) h
-
 own-records : (t : List Entry) (e : Entry) → Rises t → List·Memᴰ e t → recordsOf t (e .key) ≡ e .versions
 unfolding recordsOf
-own-records (x ∷ xs) e g (List·Memᴰ·head q) = rw (q, same-self (x .key), none-behind x xs g) (append-nil (x .versions))
-own-records (x ∷ xs) e g (List·Memᴰ·tail m) = rw (apart (x .key) (e .key) .0 (rises-below x xs e g m)) (own-records xs e (rises-rest x xs g) m)
+own-records (x ∷ xs) e g (List·Memᴰ·head q) = rw (q, same-self (x .key), records-behind x xs g) (append-nil (x .versions))
+own-records (x ∷ xs) e g (List·Memᴰ·tail m) = rw (order-apart (x .key) (e .key) (rises-below x xs e g m) .0) (own-records xs e (rises-rest x xs g) m)
 
 own-lookup : (t : List Entry) (e : Entry) (limit : Limit) → Rises t → List·Memᴰ e t → greatest limit (e .versions) ≡ lookup t (e .key) limit
 unfolding lookup
@@ -138,10 +110,6 @@ keys-rise rule limit (e ∷ f ∷ es) (rises-more b g) = go (shown rule limit e)
     go : (o : Option Record) → ShownRise (shownOf rule limit (f ∷ es)) → ShownRise (showsFor (e .key) o (shownOf rule limit (f ∷ es)))
     go none h = h
     go (some r) h = shown-before rule limit (record { key = e .key; version = r }) f es b g h
-
--- THEOREM: of an accepted body
-pub accepted-rise : (rule : Rule) (limit : ℕ) (body : List ℕ) (size : ℕ) → validateOf body size ≡ Accepted → AllBytes body → ShownRise (shownOf rule limit (tableOf body))
-accepted-rise rule limit body size ok all = keys-rise rule limit (tableOf body) (holds-table body size ok all .rules .rises)
 
 -- ---- the call
 

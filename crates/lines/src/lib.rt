@@ -1,8 +1,11 @@
 // The listing: what the desk prints and compares by hand, as a function from input bytes to output bytes.
 use point::Validated;
 use records::Kind;
+use records::Limit;
 use records::Record;
 use records::Within;
+use records::cursor::Head;
+use records::cursor::key_at;
 use words::field;
 ghost use mathlib.Core.Path.{_≡_};
 ghost use Rattle.text.specs.Written.{Ends, Written};
@@ -98,9 +101,9 @@ fn shown_at(body: &[u8], limit: u64, p: usize) -> Within
     requires { ⌜ Stands (now body) p ⌝ }
     ensures { λ r. ⌜ r ≡ foundOf (shown newestTombstone limit (entryAt (now (body .entry)) p)) ⌝ }
 {
-    let first = p + 8 + field::u32_at(body, p) as usize;
+    let first = p + Head::BYTES + field::u32_at(body, p) as usize;
     let count = field::u32_at(body, p + 4);
-    let newest = records::search::first_within(body, 0xffff_ffff_ffff_ffff, first, count);
+    let newest = records::search::first_within(body, Limit::MAX, first, count);
     if tombstone_found(newest) {
         return Within::Nothing;
     }
@@ -115,9 +118,7 @@ fn put_entry(out: &mut [u8], at: usize, body: &[u8], limit: u64, p: usize) -> Li
     let found = shown_at(body, limit, p);
     match found {
         Within::Found(r) => {
-            let from = p + 8;
-            let to = from + field::u32_at(body, p) as usize;
-            let end = put_line(out, at, &body[from..to], r);
+            let end = put_line(out, at, key_at(body, p), r);
             Lines { end, shown: 1 }
         }
         Within::Nothing => Lines { end: at, shown: 0 },
@@ -132,8 +133,8 @@ fn put_lines(out: &mut [u8], at: usize, body: &[u8], limit: u64) -> Lines
 {
     let mut end = at;
     let mut shown: u64 = 0;
-    let mut p = field::u64_at(body, 24) as usize;
-    let mut left = field::u32_at(body, 16);
+    let mut p = point::arena_in(body) as usize;
+    let mut left = point::keys_in(body);
     while 0 < left {
         let l = put_entry(out, end, body, limit, p);
         end = l.end;
@@ -179,7 +180,7 @@ fn put_table(out: &mut [u8], at: usize, body: &[u8], limit: u64, shown: u64) -> 
     requires { ⌜ Whole (now body) × (shown ≡ shownCount newestTombstone limit (tableOf (now body))) × Ends at (tableText newestTombstone limit (tableOf (now body))) ⌝ }
     ensures { λ r. ⌜ Written (now (out .entry)) at (tableText newestTombstone limit (tableOf (now (body .entry)))) (now (out .exit)) r ⌝ }
 {
-    let keys = field::u32_at(body, 16) as u64;
+    let keys = point::keys_in(body) as u64;
     let next = put_header(out, at, limit, keys, shown);
     let l = put_lines(out, next, body, limit);
     l.end
@@ -223,7 +224,7 @@ fn refusal_of(input: &[u8]) -> u8
     if Listed::MAX_INPUT < input.len() {
         return Listed::SIZE;
     }
-    let v = point::validate(&input[16..], field::u64_at(input, 8));
+    let v = point::validate(&input[Listed::BODY..], field::u64_at(input, 8));
     match v {
         Validated::Accepted => 0,
         Validated::Refused(r) => r,
@@ -238,5 +239,5 @@ pub fn listing(input: &[u8], out: &mut [u8]) -> Listed
     if refusal != 0 {
         return list_refusal(out, refusal);
     }
-    list_table(out, &input[16..], field::u64_at(input, 0))
+    list_table(out, &input[Listed::BODY..], field::u64_at(input, 0))
 }

@@ -19,11 +19,12 @@ use Rattle.records.specs.declared.Limit.the-variants.{None, UpTo}
 use Rattle.records.specs.declared.Record.{Record}
 use Rattle.records.specs.declared.Within.{Within}
 use Rattle.records.specs.declared.Within.the-variants as within
+use Rattle.records.specs.declared.cursor.HeadRead.the-variants.{At, Outside}
+use Rattle.records.specs.Cursor.{headOf, headAt}
 use Rattle.records.specs.Model.{limitOf}
-use Rattle.records.specs.Places.{keyLength, keyAt, firstVersion, versionCount, sequenceAt}
+use Rattle.records.specs.Places.{keyAt, firstVersion, versionCount, sequenceAt}
 use Rattle.records.specs.Rules.{pastData}
 use Rattle.records.specs.Within.{firstWithin}
-use Rattle.records.proofs.CursorLaws.{key-cut}
 use Rattle.point.specs.declared.Versions.{Versions}
 use Rattle.point.specs.declared.Answer.{Answer}
 use Rattle.point.specs.declared.Answer.the-variants.{Found, Nothing, Refused}
@@ -72,25 +73,30 @@ module _ (body key : List ℕ) (r : ℕ) (isr : r ≡ headerRefusal body) where
 -- ---- the record
 
 module _ (body key : List ℕ) (p : ℕ) where
-  pub record-short : length body < p + 8 → openRecordOf body p key ≡ opened.Damaged
-  unfolding openRecordOf
-  record-short h = rw (lt-ltb (length body) (p + 8) h)
+  -- its head or its key lies outside the body
+  pub record-outside : headAt body p ≡ Outside → openRecordOf body p key ≡ opened.Damaged
+  unfolding openRecordOf headAt
+  record-outside e = go (ltb (length body) (p + 8)) (ltb (length body) (firstVersion body p)) e
+    where
+      rest : Opened
+      rest = cond (sameAs (keyAt body p) key) (opened.Open (record { first = firstVersion body p; count = versionCount body p })) opened.Nothing
 
-  module _ (kl : ℕ) (fits : p + 8 ≤ length body) (isk : kl ≡ keyLength body p) where
-    pub record-cut : length body < p + 8 + kl → openRecordOf body p key ≡ opened.Damaged
+      go : (s t : Bool) → cond s Outside (cond t Outside (At (headOf body p))) ≡ Outside → cond s opened.Damaged (cond t opened.Damaged rest) ≡ opened.Damaged
+      go true t q = refl
+      go false true q = refl
+      go false false q = absurd (let z : _≡_ {A = ℕ} 0 1 = cc in omega arith)
+
+  module _ (whole : firstVersion body p ≤ length body) where
+    head : p + 8 ≤ length body
+    head = omega arith
+
+    pub record-other : sameAs (keyAt body p) key ≡ false → openRecordOf body p key ≡ opened.Nothing
     unfolding openRecordOf
-    record-cut h = rw (le-ltb (length body) (p + 8) fits, ← isk, lt-ltb (length body) (p + 8 + kl) h)
+    record-other e = rw (le-ltb (length body) (p + 8) head, le-ltb (length body) (firstVersion body p) whole, e)
 
-    module _ (whole : p + 8 + kl ≤ length body) (t : Bool) (ist : t ≡ sameAs (take (p + 8 + kl - (p + 8)) (drop (p + 8) body)) key) where
-      pub record-other : t ≡ false → openRecordOf body p key ≡ opened.Nothing
-      unfolding openRecordOf
-      record-other e =
-          rw (le-ltb (length body) (p + 8) fits, key-cut body p kl isk, ← isk, le-ltb (length body) (p + 8 + kl) whole, ← ist, e)
-
-      pub record-same : (v : ℕ) → t ≡ true → v ≡ versionCount body p → openRecordOf body p key ≡ opened.Open (record { first = p + 8 + kl; count = v })
-      unfolding openRecordOf
-      record-same v e ev =
-          rw (le-ltb (length body) (p + 8) fits, key-cut body p kl isk, ← isk, le-ltb (length body) (p + 8 + kl) whole, ← ist, e, ← ev)
+    pub record-same : sameAs (keyAt body p) key ≡ true → openRecordOf body p key ≡ opened.Open (record { first = firstVersion body p; count = versionCount body p })
+    unfolding openRecordOf
+    record-same e = rw (le-ltb (length body) (p + 8) head, le-ltb (length body) (firstVersion body p) whole, e)
 
 pub open-is : (body key : List ℕ) (l : Located) → l ≡ locateOf body key → openOf body key ≡ openAt body key l
 unfolding openOf

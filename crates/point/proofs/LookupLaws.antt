@@ -12,16 +12,15 @@ use lib.Dec.{leb}
 use borrow.Author.Tests.{leb-true, leb-false}
 use Rattle.laws.specs.Each.{Each}
 use Rattle.laws.specs.Each.Each.{each-more}
-use Rattle.words.specs.declared.part.Order.the-variants.{Less, Equal}
-use Rattle.words.specs.Part.{orderOf, sameAs}
-use Rattle.words.proofs.Ordered.{same-equal, order-self, order-trans}
+use Rattle.words.specs.Part.{sameAs}
+use Rattle.words.proofs.Ordered.{same-equal}
 use Rattle.records.specs.declared.DataLength.{DataLength}
 use Rattle.records.specs.declared.Record.{Record}
 use Rattle.records.specs.declared.Limit.{Limit}
 use Rattle.records.specs.Model.{Entry, within, recordsOf, better, greatest, lookup, Falls, Rises}
 use Rattle.records.specs.Model.Falls.{falls-none, falls-more}
-use Rattle.records.specs.Model.Rises.{rises-none, rises-more}
 use Rattle.records.specs.Tables.{EntryRules, TableRules}
+use Rattle.records.proofs.ModelLaws.{falls-rest, rises-rest, records-behind}
 use Rattle.point.specs.Lookup.{Newest, NoneWithin}
 
 -- ---- the greatest of a list
@@ -83,10 +82,6 @@ falls-below : (x : Record) (xs : List Record) (s : Record) → Falls (x ∷ xs) 
 falls-below x (y ∷ ys) s (falls-more l f) (List·Memᴰ·head e) = rw e l
 falls-below x (y ∷ ys) s (falls-more l f) (List·Memᴰ·tail m) = let u = falls-below y ys s f m in omega arith
 
-falls-rest : (x : Record) (xs : List Record) → Falls (x ∷ xs) → Falls xs
-falls-rest x [] f = falls-none
-falls-rest x (y ∷ ys) (falls-more l f) = f
-
 falls-same : (rs : List Record) (r s : Record) → Falls rs → List·Memᴰ r rs → List·Memᴰ s rs → r .sequence ≡ s .sequence → r ≡ s
 falls-same (x ∷ xs) r s f (List·Memᴰ·head e) (List·Memᴰ·head d) q = e ∙ sym d
 falls-same (x ∷ xs) r s f (List·Memᴰ·head e) (List·Memᴰ·tail m) q = absurd (let u = falls-below x xs s f m in let v = ap (λ (t : Record). t .sequence) e in omega arith)
@@ -114,34 +109,15 @@ greatest-none limit rs n = go (greatest limit rs) (greatest-means limit rs)
 
 -- ---- the records of a key fall in a table that keeps the rules
 
-differs : (a b : List ℕ) → orderOf a b ≡ Less → sameAs b a ≡ false
-differs a b l = go (sameAs b a) refl
-  where
-    go : (t : Bool) → sameAs b a ≡ t → t ≡ false
-    go true e = absurd (let q = same-equal b a e in let o : orderOf a b ≡ Equal = ap (orderOf a) q ∙ order-self a in let z : _≡_ {A = ℕ} 0 1 = cc in omega arith)
-    go false e = refl
-
-none-above : (key : List ℕ) (e : Entry) (es : List Entry) → orderOf key (e .key) ≡ Less → Rises (e ∷ es) → recordsOf (e ∷ es) key ≡ []
-unfolding recordsOf
-none-above key e [] l g = rw (differs key (e .key) l)
-none-above key e (f ∷ es) l (rises-more b g) = rw (differs key (e .key) l) (none-above key f es (order-trans key (e .key) (f .key) l b) g)
-
-rest-none : (key : List ℕ) (e : Entry) (es : List Entry) → Rises (e ∷ es) → e .key ≡ key → recordsOf es key ≡ []
-unfolding recordsOf
-rest-none key e [] g q = refl
-rest-none key e (f ∷ es) (rises-more b g) q = none-above key f es (ap (λ (k : List ℕ). orderOf k (f .key)) (sym q) ∙ b) g
-
-rises-rest : (e : Entry) (es : List Entry) → Rises (e ∷ es) → Rises es
-rises-rest e [] g = rises-none
-rises-rest e (f ∷ es) (rises-more b g) = g
-
 pub records-fall : (test : DataLength) (key : List ℕ) (t : List Entry) → Each (EntryRules test) t → Rises t → Falls (recordsOf t key)
 unfolding recordsOf
 records-fall test key [] u g = falls-none
 records-fall test key (e ∷ es) (each-more k u) g = go (sameAs (e .key) key) refl (records-fall test key es u (rises-rest e es g))
   where
     go : (b : Bool) → sameAs (e .key) key ≡ b → Falls (recordsOf es key) → Falls (cond b (e .versions ++ recordsOf es key) (recordsOf es key))
-    go true q f = rw (rest-none key e es g (same-equal (e .key) key q), append-nil) (k .falls)
+    go true q f =
+        let none : recordsOf es key ≡ [] = ap (recordsOf es) (sym (same-equal (e .key) key q)) ∙ records-behind e es g in
+        rw (none, append-nil) (k .falls)
     go false q f = f
 
 -- ---- the lookup

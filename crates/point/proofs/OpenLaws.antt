@@ -1,13 +1,12 @@
 -- On an accepted body, the opening of a key finds its versions, or nothing where it is no key of the body; and the records of a key in the
 -- body's table. Assumes nothing.
-use Prim.Native.Nat.{ℕ, zero, suc, _+_, _<_, _≤_}
+use Prim.Native.Nat.{ℕ, zero, suc, _+_, _<_}
 use native.Mathlib.Nat.{not-suc-le-zero}
 use native.Mathlib.Omega.{arith}
 use mathlib.Core.Path.{_≡_, refl, sym, ap, _∙_}
 use mathlib.Core.List.{List, [], append-nil}
 use mathlib.Core.Bool.{Bool, true, false}
 use mathlib.Core.Logic.{_⊎_, inl, inr, ⊎-elim}
-use lib.ListN.{length}
 use borrow.Author.Tests.{leb-false}
 use Rattle.laws.specs.Cases.{eq-or-ne}
 use Rattle.laws.specs.Pigeonhole.{Hit}
@@ -16,7 +15,6 @@ use Rattle.words.proofs.Laws.{AllBytes, le-lt, le-join}
 use Rattle.words.proofs.Ordered.{same-equal, same-self}
 use Rattle.mixing.specs.Mixing.{hashOf, fingerprintOf, fingerprintOf-lt}
 use Rattle.records.specs.Model.{recordsOf}
-use Rattle.records.proofs.CursorLaws.{key-cut}
 use Rattle.records.specs.Places.{keyAt, firstVersion, versionCount, nextEntry, versionsFrom, entryAt, entriesFrom, entryPlace}
 use Rattle.point.specs.declared.Validated.the-variants.{Accepted}
 use Rattle.point.specs.declared.Versions.{Versions}
@@ -24,7 +22,7 @@ use Rattle.point.specs.declared.Located.the-variants as located
 use Rattle.point.specs.declared.Opened.the-variants as opened
 use Rattle.point.specs.Layout.{seedIn, keysIn, arenaIn, slotPlace, recordOffset, fingerprintLow, fingerprintWide}
 use Rattle.point.specs.Validate.{validateOf}
-use Rattle.point.specs.Get.{locateOf, openRecordOf, openOf}
+use Rattle.point.specs.Get.{locateOf, openOf}
 use Rattle.point.specs.Table.{tableOf, keyPlace, keyOf, keySlot}
 use Rattle.point.proofs.HeaderLaws.{headed, slot-inside}
 use Rattle.point.proofs.GetLaws.{locate-on, locate-other, locate-at, open-is, record-other, record-same}
@@ -34,14 +32,6 @@ use Rattle.point.proofs.SlotLaws.{key-entered, key-belongs, hash-near, 
 -- the versions of the i-th key
 abbrev pub versionsOf : List ℕ → ℕ → Versions
 versionsOf body i = record { first = firstVersion body (keyPlace body i); count = versionCount body (keyPlace body i) }
-
--- a test of the record that a place names, with the key as it is read
-module _ (body key : List ℕ) (p : ℕ) (fits : p + 8 ≤ length body) (whole : firstVersion body p ≤ length body) where
-  opens : sameAs (keyAt body p) key ≡ true → openRecordOf body p key ≡ opened.Open (record { first = firstVersion body p; count = versionCount body p })
-  opens e = record-same body key p _ fits refl whole _ (ap (λ (k : List ℕ). sameAs k key) (key-cut body p _ refl)) _ e refl
-
-  differs : sameAs (keyAt body p) key ≡ false → openRecordOf body p key ≡ opened.Nothing
-  differs e = record-other body key p _ fits refl whole _ (ap (λ (k : List ℕ). sameAs k key) (key-cut body p _ refl)) e
 
 module _ (body : List ℕ) (size : ℕ) (ok : validateOf body size ≡ Accepted) (all : AllBytes body) (key : List ℕ) where
   -- the key's slot, which belongs to some key
@@ -83,7 +73,7 @@ module _ (body : List ℕ) (size : ℕ) (ok : validateOf body size ≡ Accepted)
         let k = key-entered body size ok i l .rules .key in
         let f : fingerprintLow body (slotPlace body (keySlot body key)) ≡ fingerprintOf (hashOf (seedIn body) key) =
         fingerprint-is ∙ ap (λ (x : List ℕ). fingerprintOf (hashOf (seedIn body) x)) (same-equal (keyOf body i) key e) in
-        open-is body key _ (sym (located-at f)) ∙ opens body key (keyPlace body i) (k .head) (k .whole) e
+        open-is body key _ (sym (located-at f)) ∙ record-same body key (keyPlace body i) (k .whole) e
 
     -- the owner has another key
     open-nothing : sameAs (keyOf body i) key ≡ false → openOf body key ≡ opened.Nothing
@@ -91,7 +81,7 @@ module _ (body : List ℕ) (size : ℕ) (ok : validateOf body size ≡ Accepted)
         let k = key-entered body size ok i l .rules .key in
         ⊎-elim
         (λ (f : fingerprintLow body (slotPlace body (keySlot body key)) ≡ fingerprintOf (hashOf (seedIn body) key)).
-        open-is body key _ (sym (located-at f)) ∙ differs body key (keyPlace body i) (k .head) (k .whole) e)
+        open-is body key _ (sym (located-at f)) ∙ record-other body key (keyPlace body i) (k .whole) e)
         (λ (n : fingerprintLow body (slotPlace body (keySlot body key)) ≡ fingerprintOf (hashOf (seedIn body) key) → ⊥). open-is body key _ (sym (located-nothing n)))
         (eq-or-ne (fingerprintLow body (slotPlace body (keySlot body key))) (fingerprintOf (hashOf (seedIn body) key)))
 

@@ -3,26 +3,23 @@
 use Prim.Native.Nat.{ℕ, _<_}
 use native.Mathlib.Omega.{arith}
 use mathlib.Core.Path.{_≡_, refl, sym, ap, _∙_}
-use mathlib.Core.List.{List, [], _∷_, _++_}
-use mathlib.Core.Bool.{Bool, true, false, cond, _&&_}
+use mathlib.Core.List.{List, [], _++_}
 use mathlib.Core.Option.{Option, none, some}
 use mathlib.Core.Logic.{⊎-elim}
 use lib.ListN.{length, take, drop, take-append-drop}
 use lib.Seq.{length-take-le}
-use lib.Dec.{leb}
-use Rattle.laws.specs.Each.{Each}
-use Rattle.laws.specs.Each.Each.{each-none, each-more}
 use Rattle.words.proofs.Laws.{AllBytes}
 use Rattle.mixing.specs.Mixing.{hashOf}
 use Rattle.records.specs.declared.DataLength.the-variants.{Of}
 use Rattle.records.specs.declared.Limit.{Limit}
 use Rattle.records.specs.declared.Record.{Record}
 use Rattle.records.specs.declared.Walked.{Walked}
-use Rattle.records.specs.Model.{Entry, tableBytes, within, limitOf, recordsOf, better, greatest, lookup}
+use Rattle.records.specs.Model.{Entry, tableBytes, within, limitOf, recordsOf, greatest, lookup}
 use Rattle.records.specs.Places.{versionsFrom, entryPlace}
 use Rattle.records.specs.Tables.{RecordRules, TableRules}
 use Rattle.records.specs.Walk.{walkFrom}
 use Rattle.records.specs.Within.{foundOf}
+use Rattle.records.proofs.ModelLaws.{greatest-has}
 use Rattle.records.proofs.ReadLaws.{versions-rules}
 use Rattle.records.proofs.WithinLaws.{search-greatest}
 use Rattle.records.proofs.Theorems.{walk-last}
@@ -44,24 +41,6 @@ use Rattle.point.proofs.OpenLaws.{versionsOf, Opens, Missing, opening-i
 
 -- ---- get
 
--- what every record has, the greatest has
-greatest-has : (P : Record → Type 0) (limit : Limit) (rs : List Record) → Each P rs → (r : Record) → greatest limit rs ≡ some r → P r
-unfolding greatest better
-greatest-has P limit [] each-none r e = absurd (let z : _≡_ {A = ℕ} 0 1 = cc in omega arith)
-greatest-has P limit (x ∷ xs) (each-more p ps) r e = go (greatest limit xs) (λ s q. greatest-has P limit xs ps s q) e
-  where
-    go : (o : Option Record) → ((s : Record) → o ≡ some s → P s) → better limit x o ≡ some r → P r
-    go none h q = pick (within limit (x .sequence)) q
-      where
-        pick : (b : Bool) → cond b (some x) none ≡ some r → P r
-        pick true f = let d : x ≡ r = cc in rw d at p
-        pick false f = absurd (let z : _≡_ {A = ℕ} 0 1 = cc in omega arith)
-    go (some s) h q = pick (within limit (x .sequence) && leb (s .sequence) (x .sequence)) q
-      where
-        pick : (b : Bool) → cond b (some x) (some s) ≡ some r → P r
-        pick true f = let d : x ≡ r = cc in rw d at p
-        pick false f = h r f
-
 -- a record inside the data is answered
 answer-inside : (size : ℕ) (o : Option Record) → ((r : Record) → o ≡ some r → RecordRules (Of size) r) → answerOf size (foundOf o) ≡ answerTo o
 unfolding answerOf
@@ -79,7 +58,7 @@ module _ (body : List ℕ) (size : ℕ) (ok : validateOf body size ≡ Accepted)
       sym (get-limit body size key limit (limitOf limit) all refl)
       ∙ get-open body key size (limitOf limit) _ refl v _ (o .opening) refl
       ∙ ap (answerOf size) s
-      ∙ answer-inside size (greatest limit (versionsFrom body (v .first) (v .count))) (greatest-has (RecordRules (Of size)) limit (versionsFrom body (v .first) (v .count)) u)
+      ∙ answer-inside size (greatest limit (versionsFrom body (v .first) (v .count))) (λ r. greatest-has {P = RecordRules (Of size)} limit (versionsFrom body (v .first) (v .count)) r u)
       ∙ ap (λ (rs : List Record). answerTo (greatest limit rs)) (sym (o .records))
 
   get-missing : Missing body key → getOf body size key limit ≡ answerTo (lookup (tableOf body) key limit)

@@ -3,20 +3,18 @@ use Prim.Native.Nat.{ℕ, zero, suc, _+_, _-_, _<_, _≤_}
 use native.Mathlib.Nat.{eq-or-lt-of-le}
 use native.Mathlib.Numerals.{add-one}
 use native.Mathlib.Omega.{arith}
-use mathlib.Core.Path.{_≡_, refl, sym, ap, _∙_}
+use mathlib.Core.Path.{_≡_, refl, ap, ap₂, _∙_}
 use mathlib.Core.List.{List}
-use mathlib.Core.Bool.{false, not}
+use mathlib.Core.Bool.{true, false, not}
 use mathlib.Core.Logic.{⊎-elim}
-use lib.ListN.{take, drop}
 use lib.Dec.{eqb}
-use borrow.Author.Tests.{eqb-true, not-false, le-leb, lt-leb, eq-eqb, ne-eqb}
+use borrow.Author.Tests.{eqb-true, not-false, eq-eqb, ne-eqb}
 use Rattle.laws.specs.RefusalLaws.{orElse-stop, orElse-zero}
 use Rattle.words.specs.Field.{le}
 use Rattle.mixing.specs.Mixing.{hashOf, fingerprintOf, bucketOf, bucketOf-lt}
 use Rattle.records.specs.declared.DataLength.the-variants.{Of}
-use Rattle.records.specs.Places.{keyLength, keyAt, nextEntry}
+use Rattle.records.specs.Places.{keyAt, nextEntry}
 use Rattle.records.specs.Walk.{walkFrom}
-use Rattle.records.proofs.CursorLaws.{key-cut}
 use Rattle.records.proofs.RuleLaws.{Entered}
 use Rattle.point.specs.declared.Validated.the-variants.{Accepted, Refused}
 use Rattle.point.specs.Layout.{headerRefusal, seedIn, keysIn, bucketsIn, arenaIn, pilotAt, pilotOf, directPast, slotOf, slotPlace, recordOffset, fingerprintWide}
@@ -26,17 +24,17 @@ use Rattle.point.proofs.HeaderLaws.{passes, headed}
 -- ---- 22, a pilot at a time
 
 module _ (body : List ℕ) (n i b : ℕ) where
-  pub pilots-past : i < b → 2147483648 + n ≤ pilotAt body i → pilotsRefusal body n i (b - i) ≡ 22
+  pub pilots-past : i < b → directPast n (pilotAt body i) ≡ true → pilotsRefusal body n i (b - i) ≡ 22
   unfolding pilotsRefusal
   pilots-past h e =
       let s : b - i ≡ suc (b - (i + 1)) = omega arith in
-      ap (pilotsRefusal body n i) s ∙ rw (le-leb (2147483648 + n) (pilotAt body i) e)
+      ap (pilotsRefusal body n i) s ∙ rw e
 
-  pub pilots-next : i < b → pilotAt body i < 2147483648 + n → pilotsRefusal body n i (b - i) ≡ pilotsRefusal body n (i + 1) (b - (i + 1))
+  pub pilots-next : i < b → directPast n (pilotAt body i) ≡ false → pilotsRefusal body n i (b - i) ≡ pilotsRefusal body n (i + 1) (b - (i + 1))
   unfolding pilotsRefusal
   pilots-next h e =
       let s : b - i ≡ suc (b - (i + 1)) = omega arith in
-      ap (pilotsRefusal body n i) s ∙ rw (lt-leb (2147483648 + n) (pilotAt body i) e, ← add-one i)
+      ap (pilotsRefusal body n i) s ∙ rw (e, ← add-one i)
 
   pub pilots-end : b ≤ i → pilotsRefusal body n i (b - i) ≡ 0
   unfolding pilotsRefusal
@@ -87,12 +85,10 @@ slotted body p e =
     let e2 = passes (not (eqb (fingerprintWide body s) (fingerprintOf (hashOf (seedIn body) (keyAt body p))))) 25 _ (e1 .1) in
     record { offset = eqb-true _ _ (not-false _ (e1 .0)); fingerprint = eqb-true _ _ (not-false _ (e2 .0)) }
 
--- the test of the key at p, as the code cuts it out and hashes it
-pub slot-is : (body : List ℕ) (p kl seed h r : ℕ) → kl ≡ keyLength body p → seed ≡ seedIn body
-    → h ≡ hashOf seed (take (p + 8 + kl - (p + 8)) (drop (p + 8) body)) → r ≡ slotTest body h p → r ≡ slotRefusal body p
+-- the test of the key at p, as the code hashes it
+pub slot-of-key : (body key : List ℕ) (p seed h r : ℕ) → key ≡ keyAt body p → seed ≡ seedIn body → h ≡ hashOf seed key → r ≡ slotTest body h p → r ≡ slotRefusal body p
 unfolding slotRefusal
-slot-is body p kl seed h r ek es eh er =
-    er ∙ ap (λ (g : ℕ). slotTest body g p) (eh ∙ ap (hashOf seed) (sym (key-cut body p kl ek)) ∙ ap (λ (x : ℕ). hashOf x (keyAt body p)) es)
+slot-of-key body key p seed h r ek es eh er = er ∙ ap (λ (g : ℕ). slotTest body g p) (eh ∙ ap₂ hashOf es ek)
 
 -- ---- the arena
 

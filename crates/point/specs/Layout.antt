@@ -1,13 +1,14 @@
 -- Where things stand in a body: the header, the pilots, the slots (document 01, "Layouts"), and the header's rules 20 and 21.
-use Prim.Native.Nat.{ℕ, _+_, _-_, _*_, _/_}
+use Prim.Native.Nat.{ℕ, _+_, _*_}
 use mathlib.Core.List.{List, [], _∷_}
-use mathlib.Core.Bool.{Bool, not, cond}
+use mathlib.Core.Bool.{Bool, not}
 use lib.ListN.{length, take}
 use lib.Dec.{ltb, leb, eqb}
 use Rattle.laws.specs.Refusals.{Cause, cause, firstOf, orElse}
 use Rattle.words.specs.Field.{le}
 use Rattle.words.specs.Part.{sameAs}
-use Rattle.mixing.specs.Mixing.{bucketOf, positionOf}
+use Rattle.mixing.specs.Mixing.{bucketOf}
+use Rattle.mixing.specs.Slots.{bucketsOf, slotBy}
 
 -- KIBANPH2
 abbrev pub magic : List ℕ
@@ -33,13 +34,17 @@ magicCauses body = cause (ltb (length body) 32) 20 ∷ cause (not (sameAs (take 
 unfoldable pub magicRefusal : List ℕ → ℕ
 magicRefusal body = firstOf (magicCauses body)
 
+-- where slot i stands, behind the header and b pilots; behind the last slot the arena starts
+abbrev pub slotAt : (b i : ℕ) → ℕ
+slotAt b i = 32 + 4 * b + 12 * i
+
 -- 21 dimensions: n from 1 to 2^31 − 1, b, arena start, arena start below the body's length
 abbrev pub dimensionCauses : (size n b arena : ℕ) → List Cause
 dimensionCauses size n b arena =
     cause (eqb n 0) 21
     ∷ cause (leb 2147483648 n) 21
-    ∷ cause (not (eqb b ((n + 2) / 3))) 21
-    ∷ cause (not (eqb arena (32 + 4 * b + 12 * n))) 21
+    ∷ cause (not (eqb b (bucketsOf n))) 21
+    ∷ cause (not (eqb arena (slotAt b n))) 21
     ∷ cause (leb size arena) 21
     ∷ []
 
@@ -58,21 +63,17 @@ pilotAt body i = le 4 body (32 + 4 * i)
 abbrev pub directPast : (n pilot : ℕ) → Bool
 directPast n pilot = leb (2147483648 + n) pilot
 
--- the slot that a pilot gives a hash
-unfoldable pub slotNumber : (n pilot h : ℕ) → ℕ
-slotNumber n pilot h = cond (leb 2147483648 pilot) (pilot - 2147483648) (positionOf h pilot n)
-
 -- the pilot of a hash's bucket
 unfoldable pub pilotOf : List ℕ → ℕ → ℕ
 pilotOf body h = pilotAt body (bucketOf h (bucketsIn body))
 
 -- the number of a hash's slot
 abbrev pub slotOf : List ℕ → ℕ → ℕ
-slotOf body h = slotNumber (keysIn body) (pilotOf body h) h
+slotOf body h = slotBy h (pilotOf body h) (keysIn body)
 
 -- where slot i stands
 unfoldable pub slotPlace : List ℕ → ℕ → ℕ
-slotPlace body i = 32 + 4 * bucketsIn body + 12 * i
+slotPlace body i = slotAt (bucketsIn body) i
 
 -- of the slot at s: u64 record offset, u16 fingerprint, and both it and the zero after it
 abbrev pub recordOffset : List ℕ → ℕ → ℕ

@@ -1,21 +1,25 @@
 // The reading side of the point index: validate, get, and the value of what get finds.
+use mixing::slot::Pilot;
+use mixing::slot::buckets;
+use mixing::slot::slot_by;
 use records::DataLength;
 use records::Limit;
 use records::Record;
 use records::Within;
-use records::cursor::Head;
+use records::cursor::HeadRead;
+use records::cursor::head_at;
+use records::cursor::key_at;
 use words::field;
 use words::part;
 ghost use mathlib.Core.Path.{_≡_};
 ghost use mathlib.Core.Bool.{false};
-ghost use Prim.Native.Nat.{_+_, _≤_};
+ghost use Prim.Native.Nat.{_+_, _^_, _<_, _≤_};
 ghost use lib.ListN.{length};
-ghost use Rattle.point.specs.Layout.{magicRefusal, dimensionRefusal, headerRefusal, keysIn, bucketsIn, arenaIn, pilotOf, directPast, slotOf, slotPlace};
+ghost use Rattle.point.specs.Layout.{magicRefusal, slotAt, dimensionRefusal, headerRefusal, seedIn, keysIn, bucketsIn, arenaIn, pilotOf, directPast, slotOf, slotPlace};
 ghost use Rattle.point.specs.Validate.{pilotsRefusal, slotTest, slotRefusal, arenaRefusal, validationRefusal, validateOf, Checked, Reached, Stepping};
 ghost use Rattle.point.specs.Get.{locateHash, locateOf, openRecordOf, openOf, answerOf, getOf, valueOf};
 ghost use Rattle.records.specs.declared.DataLength.the-variants.{Of};
 ghost use Rattle.records.specs.declared.Limit.the-variants.{UpTo};
-ghost use Rattle.records.specs.Model.{limitOf};
 ghost use Rattle.records.specs.Rules.{entryRefusal};
 
 // The header of a body.
@@ -25,11 +29,11 @@ impl Header {
     // The bytes of the header.
     pub const BYTES: usize = 32;
 
+    // The bytes of a pilot.
+    pub const PILOT: usize = 4;
+
     // The bytes of a slot.
     pub const SLOT: usize = 12;
-
-    // A pilot from here on names its slot, which is added to it; a body has fewer keys.
-    pub const DIRECT: u64 = 2_147_483_648;
 }
 
 // What validation says of a body.
@@ -70,6 +74,38 @@ impl Answer {
     pub const DAMAGE: u8 = 14;
 }
 
+// Of the header: the seed.
+fn seed_in(body: &[u8]) -> u64
+    requires { ⌜ 32 ≤ length (now body) ⌝ }
+    ensures { λ r. ⌜ r ≡ seedIn (now (body .entry)) ⌝ }
+{
+    field::u64_at(body, 8)
+}
+
+// The number of keys.
+pub fn keys_in(body: &[u8]) -> u32
+    requires { ⌜ 32 ≤ length (now body) ⌝ }
+    ensures { λ r. ⌜ r ≡ keysIn (now (body .entry)) ⌝ }
+{
+    field::u32_at(body, 16)
+}
+
+// The number of buckets.
+fn buckets_in(body: &[u8]) -> u32
+    requires { ⌜ 32 ≤ length (now body) ⌝ }
+    ensures { λ r. ⌜ r ≡ bucketsIn (now (body .entry)) ⌝ }
+{
+    field::u32_at(body, 20)
+}
+
+// Where the arena starts.
+pub fn arena_in(body: &[u8]) -> u64
+    requires { ⌜ 32 ≤ length (now body) ⌝ }
+    ensures { λ r. ⌜ r ≡ arenaIn (now (body .entry)) ⌝ }
+{
+    field::u64_at(body, 24)
+}
+
 // 20, or 0.
 fn magic_refusal(body: &[u8]) -> u8
     ensures { λ r. ⌜ r ≡ magicRefusal (now (body .entry)) ⌝ }
@@ -83,6 +119,14 @@ fn magic_refusal(body: &[u8]) -> u8
     20
 }
 
+// Where slot i stands, behind the header and b pilots; behind the last slot the arena starts.
+pub fn slot_at(b: usize, i: usize) -> usize
+    requires { ⌜ (b < 2 ^ 32) × (i < 2 ^ 32) ⌝ }
+    ensures { λ r. ⌜ r ≡ slotAt b i ⌝ }
+{
+    Header::BYTES + Header::PILOT * b + Header::SLOT * i
+}
+
 // 21, or 0: n keys, b buckets and an arena start in a body of `size` bytes.
 fn dimension_refusal(size: u64, n: u64, b: u64, arena: u64) -> u8
     ensures { λ r. ⌜ r ≡ dimensionRefusal size n b arena ⌝ }
@@ -90,13 +134,13 @@ fn dimension_refusal(size: u64, n: u64, b: u64, arena: u64) -> u8
     if n == 0 {
         return 21;
     }
-    if Header::DIRECT <= n {
+    if Pilot::DIRECT as u64 <= n {
         return 21;
     }
-    if b != (n + 2) / 3 {
+    if b != buckets(n as usize) as u64 {
         return 21;
     }
-    if arena != Header::BYTES as u64 + 4 * b + Header::SLOT as u64 * n {
+    if arena != slot_at(b as usize, n as usize) as u64 {
         return 21;
     }
     if size <= arena {
@@ -115,9 +159,9 @@ pub fn header_refusal(body: &[u8]) -> u8
     }
     dimension_refusal(
         body.len() as u64,
-        field::u32_at(body, 16) as u64,
-        field::u32_at(body, 20) as u64,
-        field::u64_at(body, 24),
+        keys_in(body) as u64,
+        buckets_in(body) as u64,
+        arena_in(body),
     )
 }
 
@@ -126,8 +170,8 @@ fn pilot_of(body: &[u8], h: u64) -> u32
     requires { ⌜ headerRefusal (now body) ≡ 0 ⌝ }
     ensures { λ r. ⌜ r ≡ pilotOf (now (body .entry)) h ⌝ }
 {
-    let i = mixing::bucket(h, field::u32_at(body, 20) as usize);
-    field::u32_at(body, Header::BYTES + 4 * i)
+    let i = mixing::bucket(h, buckets_in(body) as usize);
+    field::u32_at(body, Header::BYTES + Header::PILOT * i)
 }
 
 // Where the slot of a hash stands.
@@ -135,14 +179,17 @@ fn slot_of(body: &[u8], h: u64) -> usize
     requires { ⌜ (headerRefusal (now body) ≡ 0) × (directPast (keysIn (now body)) (pilotOf (now body) h) ≡ false) ⌝ }
     ensures { λ r. ⌜ (r ≡ slotPlace (now (body .entry)) (slotOf (now (body .entry)) h)) × (r + 12 ≤ length (now (body .entry))) ⌝ }
 {
-    let b = field::u32_at(body, 20) as usize;
-    let pilot = pilot_of(body, h);
-    if Header::DIRECT <= pilot as u64 {
-        let i = (pilot as u64 - Header::DIRECT) as usize;
-        return Header::BYTES + 4 * b + Header::SLOT * i;
-    }
-    let i = mixing::position(h, pilot, field::u32_at(body, 16) as usize);
-    Header::BYTES + 4 * b + Header::SLOT * i
+    let b = buckets_in(body) as usize;
+    let n = keys_in(body) as usize;
+    let i = slot_by(h, pilot_of(body, h), n);
+    slot_at(b, i)
+}
+
+// Whether a pilot is a direct one at or past n.
+fn direct_past(n: u32, pilot: u32) -> bool
+    ensures { λ r. ⌜ r ≡ directPast n pilot ⌝ }
+{
+    Pilot::DIRECT as u64 + n as u64 <= pilot as u64
 }
 
 // The record that the slot of a hash names.
@@ -150,19 +197,20 @@ fn locate_hash(body: &[u8], h: u64) -> Located
     requires { ⌜ headerRefusal (now body) ≡ 0 ⌝ }
     ensures { λ r. ⌜ r ≡ locateHash (now (body .entry)) h ⌝ }
 {
-    if Header::DIRECT + field::u32_at(body, 16) as u64 <= pilot_of(body, h) as u64 {
+    if direct_past(keys_in(body), pilot_of(body, h)) {
         return Located::Damaged;
     }
     let s = slot_of(body, h);
     if field::u16_at(body, s + 8) != mixing::fingerprint(h) {
         return Located::Nothing;
     }
-    let arena = field::u64_at(body, 24) as usize;
+    let arena = arena_in(body) as usize;
     let offset = field::u64_at(body, s) as usize;
     if body.len() - arena < offset {
         return Located::Damaged;
     }
-    Located::At(arena + offset)
+    let place = arena + offset;
+    Located::At(place)
 }
 
 // The place of a record for a key, by its hash alone.
@@ -172,30 +220,25 @@ pub fn locate(body: &[u8], key: &[u8]) -> Located
     if header_refusal(body) != 0 {
         return Located::Damaged;
     }
-    locate_hash(body, mixing::hash(key, field::u64_at(body, 8)))
+    locate_hash(body, mixing::hash(key, seed_in(body)))
 }
 
 // The versions of the record at a place, if it is the key's.
 pub fn open_record(body: &[u8], place: usize, key: &[u8]) -> Opened
     ensures { λ r. ⌜ r ≡ openRecordOf (now (body .entry)) place (now (key .entry)) ⌝ }
 {
-    if body.len() < place {
-        return Opened::Damaged;
+    let read = head_at(body, place);
+    match read {
+        HeadRead::At(head) => {
+            let first = head.first;
+            let count = head.versions;
+            if part::same(key_at(body, place), key) {
+                return Opened::Open(Versions { first, count });
+            }
+            Opened::Nothing
+        }
+        HeadRead::Outside => Opened::Damaged,
     }
-    if body.len() - place < Head::BYTES {
-        return Opened::Damaged;
-    }
-    let from = place + Head::BYTES;
-    let size = field::u32_at(body, place) as usize;
-    if body.len() - from < size {
-        return Opened::Damaged;
-    }
-    let first = from + size;
-    if part::same(&body[from..first], key) {
-        let count = field::u32_at(body, place + 4);
-        return Opened::Open(Versions { first, count });
-    }
-    Opened::Nothing
 }
 
 // The versions of a key.
@@ -215,11 +258,11 @@ fn pilots_refusal(body: &[u8]) -> u8
     requires { ⌜ headerRefusal (now body) ≡ 0 ⌝ }
     ensures { λ r. ⌜ r ≡ pilotsRefusal (now (body .entry)) (keysIn (now (body .entry))) 0 (bucketsIn (now (body .entry))) ⌝ }
 {
-    let n = field::u32_at(body, 16) as u64;
-    let b = field::u32_at(body, 20) as usize;
+    let n = keys_in(body);
+    let b = buckets_in(body) as usize;
     let mut i = 0;
     while i < b {
-        if Header::DIRECT + n <= field::u32_at(body, Header::BYTES + 4 * i) as u64 {
+        if direct_past(n, field::u32_at(body, Header::BYTES + Header::PILOT * i)) {
             return 22;
         }
         i += 1;
@@ -233,7 +276,7 @@ fn slot_test(body: &[u8], h: u64, p: usize) -> u8
     ensures { λ r. ⌜ r ≡ slotTest (now (body .entry)) h p ⌝ }
 {
     let s = slot_of(body, h);
-    if field::u64_at(body, s) != p as u64 - field::u64_at(body, 24) {
+    if field::u64_at(body, s) != p as u64 - arena_in(body) {
         return 26;
     }
     if field::u32_at(body, s + 8) != mixing::fingerprint(h) as u32 {
@@ -247,13 +290,7 @@ fn slot_refusal(body: &[u8], p: usize) -> u8
     requires { ⌜ Reached (now body) p ⌝ }
     ensures { λ r. ⌜ r ≡ slotRefusal (now (body .entry)) p ⌝ }
 {
-    let from = p + Head::BYTES;
-    let to = from + field::u32_at(body, p) as usize;
-    slot_test(
-        body,
-        mixing::hash(&body[from..to], field::u64_at(body, 8)),
-        p,
-    )
+    slot_test(body, mixing::hash(key_at(body, p), seed_in(body)), p)
 }
 
 // 23 to 29, or 0, of the entry at p after the one at prev: its key, its slot, its versions.
@@ -269,13 +306,7 @@ fn entry_refusal(body: &[u8], data_length: u64, prev: usize, p: usize) -> u8
     if s != 0 {
         return s;
     }
-    let first = p + Head::BYTES + field::u32_at(body, p) as usize;
-    records::rules::versions_refusal(
-        body,
-        DataLength::Of(data_length),
-        first,
-        field::u32_at(body, p + 4),
-    )
+    records::rules::entry_versions_refusal(body, DataLength::Of(data_length), p)
 }
 
 // 23 to 30, or 0, over the arena.
@@ -283,8 +314,8 @@ fn arena_refusal(body: &[u8], data_length: u64) -> u8
     requires { ⌜ Checked (now body) ⌝ }
     ensures { λ r. ⌜ r ≡ arenaRefusal (now (body .entry)) data_length ⌝ }
 {
-    let arena = field::u64_at(body, 24) as usize;
-    let mut left = field::u32_at(body, 16);
+    let arena = arena_in(body) as usize;
+    let mut left = keys_in(body);
     let mut prev = arena;
     let mut p = arena;
     while 0 < left {
@@ -361,21 +392,11 @@ pub fn get_up_to(body: &[u8], data_length: u64, key: &[u8], most: u64) -> Answer
     }
 }
 
-// A limit as a number: none is the greatest sequence there is.
-fn limit_number(limit: Limit) -> u64
-    ensures { λ r. ⌜ r ≡ limitOf limit ⌝ }
-{
-    match limit {
-        Limit::None => 0xffff_ffff_ffff_ffff,
-        Limit::UpTo(l) => l,
-    }
-}
-
 // The key's record within the limit.
 pub fn get<'b, 'd, 'k>(body: &'b [u8], data: &'d [u8], key: &'k [u8], limit: Limit) -> Answer
     ensures { λ r. ⌜ r ≡ getOf (now (body .entry)) (length (now («data» .entry))) (now (key .entry)) limit ⌝ }
 {
-    get_up_to(body, data.len() as u64, key, limit_number(limit))
+    get_up_to(body, data.len() as u64, key, limit.number())
 }
 
 // The value of what get finds, as that part of the data; or the data's first zero bytes.

@@ -11,7 +11,7 @@ use Rattle.records.specs.Walk.{walkFrom}
 use Rattle.construct.specs.Construct.{bucketsOf}
 use Rattle.finish.specs.Body.{arenaStart}
 use Rattle.finish.specs.Finish.{walked, keysOf, bodyLength}
-use Rattle.promises.specs.Example.{exampleTable, exampleArena}
+use Rattle.records.specs.Example.{exampleTable, exampleArena}
 use Rattle.fuse.specs.Positions.{firstCell, cellOf, positionsOf}
 use Rattle.sizing.specs.Table.{firsts, segments}
 use Rattle.sizing.specs.Sizing.{rule, greatest, exponentOf, segmentOf, upTo, segmentsOf, cellsOf}

@@ -3,7 +3,7 @@ use Prim.Native.Nat.{ℕ, suc, _+_, _*_, _<_}
 use native.Mathlib.Omega.{arith}
 use mathlib.Core.Path.{_≡_, refl, ap, _∙_}
 use mathlib.Core.List.{List, [], _∷_, _++_, append-assoc}
-use mathlib.Core.Bool.{Bool, true, false, not, _||_}
+use mathlib.Core.Bool.{true, false, not, or-true}
 use lib.ListN.{length, length-append}
 use lib.Dec.{eqb}
 use borrow.Author.Tests.{eq-eqb, lt-ltb}
@@ -33,10 +33,6 @@ use Rattle.records.proofs.WriteLaws.{version-size, entry-size, back-seq
 full-ok : (k : Kind) (size : ℕ) → (k ≡ Tombstone → size ≡ 0) → fullTombstone (kindByte k) size ≡ false
 full-ok Put size t = refl
 full-ok Tombstone size t = ap not (eq-eqb size 0 (t refl))
-
-or-true : (b : Bool) → b || true ≡ true
-or-true true = refl
-or-true false = refl
 
 module _ (test : DataLength) (zs : List ℕ) where
   -- one version

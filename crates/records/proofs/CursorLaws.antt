@@ -1,13 +1,15 @@
--- The head of an entry, a test at a time, and its key as it is cut out. Assumes nothing.
-use Prim.Native.Nat.{ℕ, _+_, _-_, _*_, _<_, _≤_}
-use native.Mathlib.Nat.{add-sub-cancel-left}
+-- The head of an entry, a test at a time, and what a head that was read says. Assumes nothing.
+use Prim.Native.Nat.{ℕ, _+_, _*_, _<_, _≤_}
 use native.Mathlib.Omega.{arith}
-use mathlib.Core.Path.{_≡_, refl, sym}
+use mathlib.Core.Path.{_≡_, refl}
+use mathlib.Core.Bool.{Bool, true, false, cond}
 use mathlib.Core.List.{List}
-use lib.ListN.{length, take, drop}
-use borrow.Author.Tests.{lt-ltb, le-ltb}
+use lib.Dec.{ltb}
+use lib.ListN.{length}
+use borrow.Author.Tests.{ltb-false, lt-ltb, le-ltb}
+use Rattle.records.specs.declared.cursor.Head.{Head}
 use Rattle.records.specs.declared.cursor.HeadRead.the-variants.{At, Outside}
-use Rattle.records.specs.Places.{keyLength, versionCount, keyAt, firstVersion}
+use Rattle.records.specs.Places.{keyLength, versionCount, firstVersion}
 use Rattle.records.specs.Cursor.{headOf, headAt}
 
 module _ (bytes : List ℕ) (p : ℕ) where
@@ -26,11 +28,13 @@ module _ (bytes : List ℕ) (p : ℕ) where
       let f : p + 8 ≤ length bytes = omega arith in
       rw (← el, ← ev, le-ltb (length bytes) (p + 8) f, le-ltb (length bytes) (p + 8 + l) h)
 
-  -- the head of an entry whose key lies in the bytes is read
-  pub head-inside : firstVersion bytes p ≤ length bytes → headAt bytes p ≡ At (headOf bytes p)
-  head-inside h = sym (head-whole (keyLength bytes p) (versionCount bytes p) refl refl h)
-
-  -- the key, as it is cut out
-  pub key-cut : (l : ℕ) → l ≡ keyLength bytes p → keyAt bytes p ≡ take (p + 8 + l - (p + 8)) (drop (p + 8) bytes)
-  unfolding keyAt
-  key-cut l e = rw (← e, add-sub-cancel-left (p + 8) l)
+  -- a head that was read is the entry's, and its key lies in the bytes
+  pub head-read : (h : Head) → headAt bytes p ≡ At h → (firstVersion bytes p ≤ length bytes) × (headOf bytes p ≡ h)
+  unfolding headAt
+  head-read h e = go (ltb (length bytes) (p + 8)) (ltb (length bytes) (firstVersion bytes p)) refl e
+    where
+      go : (s t : Bool) → ltb (length bytes) (firstVersion bytes p) ≡ t → cond s Outside (cond t Outside (At (headOf bytes p))) ≡ At h
+          → (firstVersion bytes p ≤ length bytes) × (headOf bytes p ≡ h)
+      go true t q z = absurd (let y : _≡_ {A = ℕ} 0 1 = cc in omega arith)
+      go false true q z = absurd (let y : _≡_ {A = ℕ} 0 1 = cc in omega arith)
+      go false false q z = (ltb-false (length bytes) (firstVersion bytes p) q, cc)

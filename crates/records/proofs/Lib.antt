@@ -1,3 +1,4 @@
+pub mod ModelLaws
 pub mod CursorLaws
 pub mod KindLaws
 pub mod RuleLaws

@@ -11,8 +11,6 @@ use borrow.Author.Tests.{ltb-true, eqb-true, eq-eqb, not-false}
 use Rattle.laws.specs.Each.{Each}
 use Rattle.laws.specs.Each.Each.{each-none, each-more}
 use Rattle.laws.specs.RefusalLaws.{orElse-zero}
-use Rattle.words.specs.declared.part.Order.{Order}
-use Rattle.words.specs.declared.part.Order.the-variants.{Less, Equal, Greater}
 use Rattle.words.specs.Field.{le, bytesOf}
 use Rattle.words.specs.Part.{orderOf}
 use Rattle.words.proofs.Laws.{AllBytes, le-lt}
@@ -22,8 +20,9 @@ use Rattle.records.specs.Model.{kindByte, versionBytes, versionsBytes, e
 use Rattle.records.specs.Model.Falls.{falls-none, falls-one, falls-more}
 use Rattle.records.specs.Model.Rises.{rises-none, rises-one, rises-more}
 use Rattle.records.specs.Places.{keyLength, versionCount, keyAt, firstVersion, nextEntry, sequenceAt, kindAt, lengthAt, kindOf, recordAt, versionsFrom, entryAt, entriesFrom, entryPlace}
-use Rattle.records.specs.Rules.{isLess, badKind, fullTombstone, versionRefusal, versionsRefusal}
+use Rattle.records.specs.Rules.{badKind, fullTombstone, versionRefusal, versionsRefusal}
 use Rattle.records.specs.Tables.{RecordRules, EntryRules, TableRules}
+use Rattle.records.proofs.ModelLaws.{less-is}
 use Rattle.records.proofs.KindLaws.{kind-byte, tombstone-two}
 use Rattle.records.proofs.RuleLaws.{Versioned, versioned, Entered, key-next, sequence-next}
 use Rattle.records.proofs.PassedLaws.{Passed, passed-end}
@@ -134,11 +133,6 @@ versions-fall bytes test (suc (suc k)) prev p e =
     let n : p ≡ p + 21 → ⊥ = λ z. omega arith in
     let f : ltb (sequenceAt bytes (p + 21)) (sequenceAt bytes p) ≡ true = sym (sequence-next bytes p (p + 21) n) ∙ versioned bytes test p (p + 21) (t .0) .falling in
     falls-more (ltb-true (sequenceAt bytes (p + 21)) (sequenceAt bytes p) f) (versions-fall bytes test (suc k) p (p + 21) (s .1))
-
-less-is : (o : Order) → isLess o ≡ true → o ≡ Less
-less-is Less e = refl
-less-is Equal e = cc
-less-is Greater e = cc
 
 module _ {slots : ℕ → ℕ} {bytes : List ℕ} {test : DataLength} where
   -- keys rise strictly

@@ -5,7 +5,7 @@ use native.Mathlib.Omega.{arith}
 use mathlib.Core.Path.{_≡_, refl, sym, ap, _∙_}
 use mathlib.Core.List.{List}
 use mathlib.Core.Bool.{Bool, true, false, not, cond}
-use lib.ListN.{length, take, drop}
+use lib.ListN.{length}
 use lib.Dec.{ltb}
 use borrow.Author.Tests.{ltb-true, ltb-false, eqb-false, not-false, lt-ltb, le-ltb, eq-eqb, ne-eqb}
 use Rattle.laws.specs.Refusals.{First, None, first-given, first-only, none-given, none-only}
@@ -15,7 +15,6 @@ use Rattle.laws.specs.RefusalLaws.{orElse-stop, orElse-zero}
 use Rattle.words.specs.declared.part.Order.{Order}
 use Rattle.words.specs.Part.{orderOf}
 use Rattle.records.specs.declared.DataLength.{DataLength}
-use Rattle.records.proofs.CursorLaws.{key-cut}
 use Rattle.records.specs.Places.{keyLength, versionCount, keyAt, firstVersion, nextEntry, sequenceAt, kindAt, lengthAt, offsetAt}
 use Rattle.records.specs.Rules.{isLess, keyRises, keyCauses, keyRefusal, badKind, pastData, fullTombstone, sequenceFalls, versionCauses, versionRefusal, versionsRefusal, entryVersionsRefusal, entryRefusal}
 
@@ -228,10 +227,9 @@ module _ (slots : ℕ → ℕ) (bytes : List ℕ) (test : DataLength) (prev p : 
   unfolding entryRefusal
   entry-slot r k e n = sym (rw (k, ← e) (orElse-stop r _ n))
 
-  pub entry-versions : (r first count : ℕ) → keyRefusal bytes prev p ≡ 0 → slots p ≡ 0 → first ≡ firstVersion bytes p → count ≡ versionCount bytes p
-      → r ≡ versionsRefusal bytes test first first count → r ≡ entryRefusal slots bytes test prev p
+  pub entry-versions : (r : ℕ) → keyRefusal bytes prev p ≡ 0 → slots p ≡ 0 → r ≡ entryVersionsRefusal bytes test p → r ≡ entryRefusal slots bytes test prev p
   unfolding entryRefusal
-  entry-versions r first count k s ef ec e = sym (rw (k, s, ← ef, ← ec) (sym e))
+  entry-versions r k s e = sym (rw (k, s) (sym e))
 
 -- ---- what stands before
 
@@ -243,12 +241,9 @@ pub key-next : (bytes : List ℕ) (prev p : ℕ) → (prev ≡ p → ⊥) → ke
 unfolding keyRises
 key-next bytes prev p n = rw (ne-eqb prev p n)
 
--- two keys that are cut out and compared
-pub key-compared : (bytes : List ℕ) (prev p m n : ℕ) (o : Order) → (prev ≡ p → ⊥) → m ≡ keyLength bytes prev → n ≡ keyLength bytes p
-    → o ≡ orderOf (take (prev + 8 + m - (prev + 8)) (drop (prev + 8) bytes)) (take (p + 8 + n - (p + 8)) (drop (p + 8) bytes)) → isLess o ≡ keyRises bytes prev p
-key-compared bytes prev p m n o d em en eo =
-    let e : orderOf (keyAt bytes prev) (keyAt bytes p) ≡ o = cc (eo, key-cut bytes prev m em, key-cut bytes p n en) in
-    sym (key-next bytes prev p d ∙ ap isLess e)
+-- two keys that are compared
+pub key-compared : (bytes : List ℕ) (prev p : ℕ) (o : Order) → (prev ≡ p → ⊥) → orderOf (keyAt bytes prev) (keyAt bytes p) ≡ o → isLess o ≡ keyRises bytes prev p
+key-compared bytes prev p o d e = sym (key-next bytes prev p d ∙ ap isLess e)
 
 pub sequence-first : (bytes : List ℕ) (prev p : ℕ) → prev ≡ p → sequenceFalls bytes prev p ≡ true
 unfolding sequenceFalls

@@ -17,10 +17,11 @@ use Rattle.records.specs.declared.Limit.the-variants.{None, UpTo}
 use Rattle.records.specs.declared.Within.{Within}
 use Rattle.records.specs.declared.Within.the-variants.{Found, Damaged}
 use Rattle.records.specs.Model.{within, limitOf, better, greatest, Falls}
-use Rattle.records.specs.Model.Falls.{falls-none, falls-more}
+use Rattle.records.specs.Model.Falls.{falls-more}
 use Rattle.records.specs.Places.{sequenceAt, recordAt, versionsFrom}
 use Rattle.records.specs.Rules.{versionRefusal, versionsRefusal}
 use Rattle.records.specs.Within.{firstWithin, foundOf}
+use Rattle.records.proofs.ModelLaws.{falls-rest, found-whole}
 use Rattle.records.proofs.RuleLaws.{versioned}
 use Rattle.records.proofs.ReadLaws.{versions-fall}
 
@@ -62,10 +63,6 @@ better-first limit r (some s) f = let l = f s refl in rw (le-leb (s .sequence) (
     go true = refl
     go false = refl
 
-falls-rest : (r : Record) (rs : List Record) → Falls (r ∷ rs) → Falls rs
-falls-rest r [] f = falls-none
-falls-rest r (s ∷ rs) (falls-more l f) = f
-
 first-greatest : (limit : Limit) (rs : List Record) → Falls rs → firstIn limit rs ≡ greatest limit rs
 unfolding firstIn greatest
 first-greatest limit [] f = refl
@@ -94,10 +91,6 @@ module _ (bytes : List ℕ) (test : DataLength) (limit : Limit) (all : AllBytes 
   pub search-greatest : (k prev p : ℕ) → versionsRefusal bytes test prev p k ≡ 0 → firstWithin bytes (limitOf limit) p k ≡ foundOf (greatest limit (versionsFrom bytes p k))
   search-greatest k prev p e = search-first k prev p e ∙ ap foundOf (first-greatest limit (versionsFrom bytes p k) (versions-fall bytes test k prev p e))
 
-  never-damaged : (o : Option Record) → foundOf o ≡ Damaged → ⊥
-  never-damaged none e = let z : _≡_ {A = ℕ} 0 1 = cc in omega arith
-  never-damaged (some r) e = let z : _≡_ {A = ℕ} 0 1 = cc in omega arith
-
   -- and never damage
   pub search-whole : (k prev p : ℕ) → versionsRefusal bytes test prev p k ≡ 0 → firstWithin bytes (limitOf limit) p k ≡ Damaged → ⊥
-  search-whole k prev p e d = never-damaged (greatest limit (versionsFrom bytes p k)) (sym (search-greatest k prev p e) ∙ d)
+  search-whole k prev p e d = found-whole (greatest limit (versionsFrom bytes p k)) (sym (search-greatest k prev p e) ∙ d)

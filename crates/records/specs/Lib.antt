@@ -7,3 +7,4 @@ pub mod Within
 pub mod Cursor
 pub mod Needs
 pub mod Tables
+pub mod Example

@@ -1,11 +1,11 @@
-// The cursor over entries: an entry's head, a version, and where the next entry stands.
+// The cursor over entries: an entry's head, its key, a version, and where the next entry stands.
 use super::Kind;
 use super::Record;
 use words::field;
 ghost use mathlib.Core.Path.{_≡_};
 ghost use Prim.Native.Nat.{_+_, _≤_};
 ghost use lib.ListN.{length};
-ghost use Rattle.records.specs.Places.{nextEntry, recordAt};
+ghost use Rattle.records.specs.Places.{keyAt, firstVersion, nextEntry, recordAt};
 ghost use Rattle.records.specs.Cursor.{headAt};
 
 // What the head of an entry says: where its key stands and how long it is, its versions, where the first one stands, and where the next
@@ -57,6 +57,16 @@ pub fn head_at(bytes: &[u8], p: usize) -> HeadRead
         first,
         next,
     })
+}
+
+// The key of the entry at p.
+pub fn key_at(bytes: &[u8], p: usize) -> &[u8]
+    requires { ⌜ firstVersion (now bytes) p ≤ length (now bytes) ⌝ }
+    ensures { λ r. ⌜ now r ≡ keyAt (now (bytes .entry)) p ⌝ }
+{
+    let from = p + Head::BYTES;
+    let to = from + field::u32_at(bytes, p) as usize;
+    &bytes[from..to]
 }
 
 // Where the entry after the one at p stands.

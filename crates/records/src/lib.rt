@@ -1,6 +1,6 @@
 // The records of an arena: kinds, records, limits, and their model in specs/.
 ghost use mathlib.Core.Path.{_≡_};
-ghost use Rattle.records.specs.Model.{kindRead, within};
+ghost use Rattle.records.specs.Model.{kindByte, kindRead, limitOf};
 
 pub mod cursor;
 pub mod rules;
@@ -36,6 +36,16 @@ impl Kind {
         }
         KindRead::Unknown
     }
+
+    // The byte of the kind.
+    pub fn byte(self) -> u8
+        ensures { λ r. ⌜ r ≡ kindByte self ⌝ }
+    {
+        match self {
+            Kind::Put => Kind::PUT,
+            Kind::Tombstone => Kind::TOMBSTONE,
+        }
+    }
 }
 
 // One version of a key: where its value lies in the data.
@@ -54,6 +64,14 @@ impl Record {
     pub const MAX_VALUE: u32 = 16_777_216;
 }
 
+// An arena: the entries of a table, one after another.
+pub struct Arena {}
+
+impl Arena {
+    // The most keys.
+    pub const MAX_KEYS: usize = 65_536;
+}
+
 // How new a record may be: any, or up to a sequence.
 pub enum Limit {
     None,
@@ -61,13 +79,16 @@ pub enum Limit {
 }
 
 impl Limit {
-    // Whether a sequence is within the limit.
-    pub fn holds(self, sequence: u64) -> bool
-        ensures { λ r. ⌜ r ≡ within self sequence ⌝ }
+    // The greatest sequence there is.
+    pub const MAX: u64 = 0xffff_ffff_ffff_ffff;
+
+    // The limit as a number: none is the greatest sequence.
+    pub fn number(self) -> u64
+        ensures { λ r. ⌜ r ≡ limitOf self ⌝ }
     {
         match self {
-            Limit::None => true,
-            Limit::UpTo(l) => sequence <= l,
+            Limit::None => Limit::MAX,
+            Limit::UpTo(l) => l,
         }
     }
 }

@@ -3,13 +3,15 @@ use super::DataLength;
 use super::Kind;
 use super::KindRead;
 use super::Record;
+use super::cursor;
 use super::cursor::Head;
 use words::field;
 use words::part;
 ghost use mathlib.Core.Path.{_≡_};
 ghost use Prim.Native.Nat.{_+_, _≤_};
 ghost use lib.ListN.{length};
-ghost use Rattle.records.specs.Rules.{keyRises, keyRefusal, badKind, pastData, fullTombstone, sequenceFalls, versionRefusal, versionsRefusal, entryRefusal, unslotted};
+ghost use Rattle.records.specs.Rules.{keyRises, keyRefusal, badKind, pastData, fullTombstone, sequenceFalls, versionRefusal, versionsRefusal, entryVersionsRefusal, entryRefusal, unslotted};
+ghost use Rattle.records.specs.Places.{firstVersion};
 ghost use Rattle.records.specs.Needs.{KeysInside, Walking, Following};
 
 // The key at p is greater than the one of the entry at prev, if there is one.
@@ -20,12 +22,7 @@ fn key_rises(bytes: &[u8], prev: usize, p: usize) -> bool
     if prev == p {
         return true;
     }
-    let a = prev + Head::BYTES;
-    let b = a + field::u32_at(bytes, prev) as usize;
-    let c = p + Head::BYTES;
-    let d = c + field::u32_at(bytes, p) as usize;
-    let order = part::compare(&bytes[a..b], &bytes[c..d]);
-    match order {
+    match part::compare(cursor::key_at(bytes, prev), cursor::key_at(bytes, p)) {
         part::Order::Less => true,
         part::Order::Equal => false,
         part::Order::Greater => false,
@@ -83,7 +80,7 @@ pub fn past_data(test: DataLength, offset: u64, size: u32) -> bool
 }
 
 // A tombstone with length.
-fn full_tombstone(kind: u8, size: u32) -> bool
+pub fn full_tombstone(kind: u8, size: u64) -> bool
     ensures { λ r. ⌜ r ≡ fullTombstone kind size ⌝ }
 {
     if kind == Kind::TOMBSTONE {
@@ -122,7 +119,7 @@ pub fn version_refusal(bytes: &[u8], test: DataLength, prev: usize, p: usize) ->
     if past_data(test, field::u64_at(bytes, p + 13), size) {
         return 29;
     }
-    if full_tombstone(kind, size) {
+    if full_tombstone(kind, size as u64) {
         return 29;
     }
     if sequence_falls(bytes, prev, p) {
@@ -151,6 +148,15 @@ pub fn versions_refusal(bytes: &[u8], test: DataLength, p: usize, count: u32) ->
     0
 }
 
+// The first rule that a version of the entry at p breaks, or 0.
+pub fn entry_versions_refusal(bytes: &[u8], test: DataLength, p: usize) -> u8
+    requires { ⌜ firstVersion (now bytes) p ≤ length (now bytes) ⌝ }
+    ensures { λ r. ⌜ r ≡ entryVersionsRefusal (now (bytes .entry)) test p ⌝ }
+{
+    let first = p + Head::BYTES + field::u32_at(bytes, p) as usize;
+    versions_refusal(bytes, test, first, field::u32_at(bytes, p + 4))
+}
+
 // The rule that the entry at p breaks, after the one at prev: its key's, then its versions', or 0.
 pub fn entry_refusal(bytes: &[u8], test: DataLength, prev: usize, p: usize) -> u8
     requires { ⌜ Walking (now bytes) prev p ⌝ }
@@ -160,6 +166,5 @@ pub fn entry_refusal(bytes: &[u8], test: DataLength, prev: usize, p: usize) -> u
     if r != 0 {
         return r;
     }
-    let first = p + Head::BYTES + field::u32_at(bytes, p) as usize;
-    versions_refusal(bytes, test, first, field::u32_at(bytes, p + 4))
+    entry_versions_refusal(bytes, test, p)
 }

@@ -5,17 +5,17 @@ use Rattle.builder.proofs.PartLaws.{version-put}
 use Rattle.builder.proofs.put_version.Statement.{statement}
 use Rattle.builder.proofs.put_version.Tie as tie
 
-byte-of-requires : tie.Need-byte-of-requires
-byte-of-requires c κs = search needs
+byte-requires : tie.Need-byte-requires
+byte-requires c κs = search needs
 
 put-u64-requires : tie.Need-put-u64-requires
 put-u64-requires c κs = search needs
 
-add-put-byte : tie.Need-add-put-byte
-add-put-byte c = search needs
+add-put-u8 : tie.Need-add-put-u8
+add-put-u8 c = search needs
 
-put-byte-requires : tie.Need-put-byte-requires
-put-byte-requires c κs = search needs
+put-u8-requires : tie.Need-put-u8-requires
+put-u8-requires c κs = search needs
 
 add-put-u32 : tie.Need-add-put-u32
 add-put-u32 c = search needs
@@ -41,10 +41,10 @@ pub put-version-spec : {M : Type 1} → statement M
 put-version-spec =
     tie.close
     (tie.spec
-    byte-of-requires
+    byte-requires
     put-u64-requires
-    add-put-byte
-    put-byte-requires
+    add-put-u8
+    put-u8-requires
     add-put-u32
     put-u32-requires
     add-put-u64

@@ -1,4 +1,4 @@
--- `finish::finish` meets its contract. Assumes nothing.
+-- `finish` refuses by the lengths, or builds and clears the workspace, as its post says. Assumes nothing.
 use Prim.Native.Nat.{ℕ, _+_}
 use native.Mathlib.Omega.{arith}
 use mathlib.Core.Path.{_≡_, sym, ap, _∙_}

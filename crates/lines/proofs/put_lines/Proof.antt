@@ -11,14 +11,14 @@ Inv-loop out₀ at body limit end₀ shown₀ p₀ left₀ out end shown p left 
 abbrev μ-loop : tie.MeasureT-loop
 μ-loop out₀ at body limit end₀ shown₀ p₀ left₀ out end shown p left = left
 
-u64-at-requires : tie.Need-u64-at-requires Inv-loop μ-loop
-u64-at-requires c κs = omega (arith, c .before .before .pre .0 .long)
+arena-in-requires : tie.Need-arena-in-requires Inv-loop μ-loop
+arena-in-requires c κs = omega (arith, c .before .before .pre .0 .long)
 
-u32-at-requires : tie.Need-u32-at-requires Inv-loop μ-loop
-u32-at-requires c κs = omega (arith, c .before .before .before .pre .0 .long)
+keys-in-requires : tie.Need-keys-in-requires Inv-loop μ-loop
+keys-in-requires c κs = omega (arith, c .before .before .before .pre .0 .long)
 
 loop-holds : tie.Need-loop-holds Inv-loop μ-loop
-loop-holds c = going-first _ _ _ _ _ _ (c .before .before .before .before .pre .0) (c .before .u64-at .ensures) (c .u32-at .ensures)
+loop-holds c = going-first _ _ _ _ _ _ (c .before .before .before .before .pre .0) (c .before .arena-in .ensures) (c .keys-in .ensures)
 
 put-entry-requires : tie.Need-put-entry-requires Inv-loop μ-loop
 unfolding tableOf
@@ -51,8 +51,8 @@ put-lines-spec =
     (tie.spec
     Inv-loop
     μ-loop
-    u64-at-requires
-    u32-at-requires
+    arena-in-requires
+    keys-in-requires
     loop-holds
     put-entry-requires
     add-shown

@@ -21,14 +21,14 @@ Inv-loop body data-length arena left₀ prev₀ p₀ left prev p = Stepping body
 abbrev μ-loop : tie.MeasureT-loop
 μ-loop body data-length arena left₀ prev₀ p₀ left prev p = left
 
-u64-at-requires : tie.Need-u64-at-requires Inv-loop μ-loop
-u64-at-requires c κs = let h = headed _ (c .before .pre .header) in omega arith
+arena-in-requires : tie.Need-arena-in-requires Inv-loop μ-loop
+arena-in-requires c κs = let h = headed _ (c .before .pre .header) in omega arith
 
-u32-at-requires : tie.Need-u32-at-requires Inv-loop μ-loop
-u32-at-requires c κs = let h = headed _ (c .before .before .pre .header) in omega arith
+keys-in-requires : tie.Need-keys-in-requires Inv-loop μ-loop
+keys-in-requires c κs = let h = headed _ (c .before .before .pre .header) in omega arith
 
 loop-holds : tie.Need-loop-holds Inv-loop μ-loop
-loop-holds c = (step-first _ _ (c .before .before .before .pre) (c .before .u64-at .ensures), arena-start _ _ _ _ (c .before .u64-at .ensures) (c .u32-at .ensures))
+loop-holds c = (step-first _ _ (c .before .before .before .pre) (c .before .arena-in .ensures), arena-start _ _ _ _ (c .before .arena-in .ensures) (c .keys-in .ensures))
 
 entry-refusal-requires : tie.Need-entry-refusal-requires Inv-loop μ-loop
 entry-refusal-requires c κs = c .before .loop .inv .0
@@ -70,8 +70,8 @@ arena-refusal-spec =
     (tie.spec
     Inv-loop
     μ-loop
-    u64-at-requires
-    u32-at-requires
+    arena-in-requires
+    keys-in-requires
     loop-holds
     entry-refusal-requires
     returns

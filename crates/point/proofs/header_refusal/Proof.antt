@@ -12,26 +12,26 @@ magic-refusal-requires c κs = search needs
 returns : tie.Need-returns
 returns c = sym (header-stop _ _ (c .before .magic-refusal .ensures) (c .if1 .taken))
 
-u32-at-requires : tie.Need-u32-at-requires
-u32-at-requires c κs = let h = magic-long _ (sym (c .before .magic-refusal .ensures) ∙ c .if1 .left) in omega arith
+keys-in-requires : tie.Need-keys-in-requires
+keys-in-requires c κs = let h = magic-long _ (sym (c .before .magic-refusal .ensures) ∙ c .if1 .left) in omega arith
 
 cast-dimension-refusal : tie.Need-cast-dimension-refusal
 cast-dimension-refusal c = search needs
 
-u32-at-requires-2 : tie.Need-u32-at-requires-2
-u32-at-requires-2 c κs = let h = magic-long _ (sym (c .before .before .magic-refusal .ensures) ∙ c .before .if1 .left) in omega arith
+buckets-in-requires : tie.Need-buckets-in-requires
+buckets-in-requires c κs = let h = magic-long _ (sym (c .before .before .magic-refusal .ensures) ∙ c .before .if1 .left) in omega arith
 
 cast-dimension-refusal-2 : tie.Need-cast-dimension-refusal-2
 cast-dimension-refusal-2 c = search needs
 
-u64-at-requires : tie.Need-u64-at-requires
-u64-at-requires c κs = let h = magic-long _ (sym (c .before .before .before .magic-refusal .ensures) ∙ c .before .before .if1 .left) in omega arith
+arena-in-requires : tie.Need-arena-in-requires
+arena-in-requires c κs = let h = magic-long _ (sym (c .before .before .before .magic-refusal .ensures) ∙ c .before .before .if1 .left) in omega arith
 
 dimension-refusal-requires : tie.Need-dimension-refusal-requires
 dimension-refusal-requires c κs = search needs
 
 returns-2 : tie.Need-returns-2
-returns-2 c = sym (header-on _ _ _ _ _ _ (c .before .before .before .before .before .magic-refusal .ensures) (c .before .before .before .before .if1 .left) (c .before .before .before .u32-at .ensures) (c .before .before .u32-at2 .ensures) (c .before .u64-at .ensures) (c .dimension-refusal .ensures))
+returns-2 c = sym (header-on _ _ _ _ _ _ (c .before .before .before .before .before .magic-refusal .ensures) (c .before .before .before .before .if1 .left) (c .before .before .before .keys-in .ensures) (c .before .before .buckets-in .ensures) (c .before .arena-in .ensures) (c .dimension-refusal .ensures))
 
 pub header-refusal-spec : {M : Type 1} → statement M
 header-refusal-spec =
@@ -39,10 +39,10 @@ header-refusal-spec =
     (tie.spec
     magic-refusal-requires
     returns
-    u32-at-requires
+    keys-in-requires
     cast-dimension-refusal
-    u32-at-requires-2
+    buckets-in-requires
     cast-dimension-refusal-2
-    u64-at-requires
+    arena-in-requires
     dimension-refusal-requires
     returns-2)

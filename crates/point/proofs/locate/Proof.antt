@@ -13,8 +13,8 @@ header-refusal-requires c κs = search needs
 returns : tie.Need-returns
 returns c = sym (locate-refused _ _ _ (c .before .header-refusal .ensures) (c .if1 .taken))
 
-u64-at-requires : tie.Need-u64-at-requires
-u64-at-requires c κs = let h = headed _ (sym (c .before .header-refusal .ensures) ∙ c .if1 .left) in omega arith
+seed-in-requires : tie.Need-seed-in-requires
+seed-in-requires c κs = let h = headed _ (sym (c .before .header-refusal .ensures) ∙ c .if1 .left) in omega arith
 
 hash-requires : tie.Need-hash-requires
 hash-requires c κs = search needs
@@ -23,7 +23,7 @@ locate-hash-requires : tie.Need-locate-hash-requires
 locate-hash-requires c κs = sym (c .before .before .before .header-refusal .ensures) ∙ c .before .before .if1 .left
 
 returns-2 : tie.Need-returns-2
-returns-2 c = let e = locate-on _ (c .before .before .before .before .before .before .before .args .key .now) _ (c .before .before .before .before .header-refusal .ensures) (c .before .before .before .if1 .left) in cc (e, c .locate-hash .ensures, c .before .hash .ensures, c .before .before .u64-at .ensures)
+returns-2 c = let e = locate-on _ (c .before .before .before .before .before .before .before .args .key .now) _ (c .before .before .before .before .header-refusal .ensures) (c .before .before .before .if1 .left) in cc (e, c .locate-hash .ensures, c .before .hash .ensures, c .before .before .seed-in .ensures)
 
 pub locate-spec : {M : Type 1} → statement M
 locate-spec =
@@ -31,7 +31,7 @@ locate-spec =
     (tie.spec
     header-refusal-requires
     returns
-    u64-at-requires
+    seed-in-requires
     hash-requires
     locate-hash-requires
     returns-2)

@@ -1,32 +1,27 @@
 -- `locate_hash` follows the hash's pilot and slot, and compares 16 bits of fingerprint, as `locateHash` says. Assumes nothing.
-use mathlib.Core.Path.{sym}
+use mathlib.Core.Path.{sym, _∙_}
 use Rattle.point.proofs.HeaderLaws.{headed}
 use Rattle.point.proofs.GetLaws.{near-is, locate-past, locate-other, locate-out, locate-at}
 use native.Mathlib.Omega.{arith}
 use borrow.Author.Needs.{needs}
+use borrow.Author.Tests.{leb-true, leb-false}
 use Rattle.point.proofs.locate_hash.Statement.{statement}
 use Rattle.point.proofs.locate_hash.Tie as tie
 
-u32-at-requires : tie.Need-u32-at-requires
-u32-at-requires c κs = let h = headed _ (c .before .pre) in omega arith
-
-cast-if1 : tie.Need-cast-if1
-cast-if1 c = search needs
-
-add-if1 : tie.Need-add-if1
-add-if1 c = search needs
+keys-in-requires : tie.Need-keys-in-requires
+keys-in-requires c κs = let h = headed _ (c .before .pre) in omega arith
 
 pilot-of-requires : tie.Need-pilot-of-requires
 pilot-of-requires c κs = search needs
 
-cast-if1-2 : tie.Need-cast-if1-2
-cast-if1-2 c = search needs
+direct-past-requires : tie.Need-direct-past-requires
+direct-past-requires c κs = search needs
 
 returns : tie.Need-returns
-returns c = sym (locate-past _ (c .before .before .before .before .args .h) _ _ (c .before .before .u32-at .ensures) (c .before .pilot-of .ensures) (c .if1 .taken))
+returns c = sym (locate-past _ (c .before .before .before .before .before .args .h) _ _ (c .before .before .before .keys-in .ensures) (c .before .before .pilot-of .ensures) (leb-true _ _ (sym (c .before .direct-past .ensures) ∙ c .if1 .taken)))
 
 slot-of-requires : tie.Need-slot-of-requires
-slot-of-requires c κs = (c .before .before .before .before .pre, near-is _ (c .before .before .before .before .args .h) _ _ (c .before .before .u32-at .ensures) (c .before .pilot-of .ensures) (c .if1 .left))
+slot-of-requires c κs = (c .before .before .before .before .before .pre, near-is _ (c .before .before .before .before .before .args .h) _ _ (c .before .before .before .keys-in .ensures) (c .before .before .pilot-of .ensures) (leb-false _ _ (sym (c .before .direct-past .ensures) ∙ c .if1 .left)))
 
 add-u16-at : tie.Need-add-u16-at
 add-u16-at c = search needs
@@ -38,50 +33,48 @@ fingerprint-requires : tie.Need-fingerprint-requires
 fingerprint-requires c κs = search needs
 
 returns-2 : tie.Need-returns-2
-returns-2 c = sym (locate-other _ (c .before .before .before .before .before .before .before .before .args .h) _ _ (c .before .before .before .before .before .before .u32-at .ensures) (c .before .before .before .before .before .pilot-of .ensures) (c .before .before .before .before .if1 .left) _ _ _ (c .before .before .before .slot-of .ensures .0) (c .before .before .u16-at .ensures) (c .before .fingerprint .ensures) (c .if2 .taken))
+returns-2 c = sym (locate-other _ (c .before .before .before .before .before .before .before .before .before .args .h) _ _ (c .before .before .before .before .before .before .before .keys-in .ensures) (c .before .before .before .before .before .before .pilot-of .ensures) (leb-false _ _ (sym (c .before .before .before .before .before .direct-past .ensures) ∙ c .before .before .before .before .if1 .left)) _ _ _ (c .before .before .before .slot-of .ensures .0) (c .before .before .u16-at .ensures) (c .before .fingerprint .ensures) (c .if2 .taken))
+
+arena-in-requires : tie.Need-arena-in-requires
+arena-in-requires c κs = let h = headed _ (c .before .before .before .before .before .before .before .before .before .pre) in omega arith
 
 u64-at-requires : tie.Need-u64-at-requires
-u64-at-requires c κs = let h = headed _ (c .before .before .before .before .before .before .before .before .pre) in omega arith
-
-u64-at-requires-2 : tie.Need-u64-at-requires-2
-u64-at-requires-2 c κs = search needs
+u64-at-requires c κs = search needs
 
 sub-if3 : tie.Need-sub-if3
-sub-if3 c = let h = headed _ (c .before .before .before .before .before .before .before .before .before .before .pre) in omega arith
+sub-if3 c = let h = headed _ (c .before .before .before .before .before .before .before .before .before .before .before .pre) in omega arith
 
 returns-3 : tie.Need-returns-3
-returns-3 c = let h = headed _ (c .before .before .before .before .before .before .before .before .before .before .before .pre) in
+returns-3 c = let h = headed _ (c .before .before .before .before .before .before .before .before .before .before .before .before .pre) in
     sym
-    (locate-out _ (c .before .before .before .before .before .before .before .before .before .before .before .args .h) _ _ (c .before .before .before .before .before .before .before .before .before .u32-at .ensures) (c .before .before .before .before .before .before .before .before .pilot-of .ensures) (c .before .before .before .before .before .before .before .if1 .left) _ _ _ (c .before .before .before .before .before .before .slot-of .ensures .0) (c .before .before .before .before .before .u16-at .ensures) (c .before .before .before .before .fingerprint .ensures) _ _
-    (c .before .before .before .if2 .left) (c .before .before .u64-at .ensures) (c .before .u64-at2 .ensures) (omega arith))
+    (locate-out _ (c .before .before .before .before .before .before .before .before .before .before .before .before .args .h) _ _ (c .before .before .before .before .before .before .before .before .before .before .keys-in .ensures) (c .before .before .before .before .before .before .before .before .before .pilot-of .ensures) (leb-false _ _ (sym (c .before .before .before .before .before .before .before .before .direct-past .ensures) ∙ c .before .before .before .before .before .before .before .if1 .left)) _ _ _ (c .before .before .before .before .before .before .slot-of .ensures .0) (c .before .before .before .before .before .u16-at .ensures) (c .before .before .before .before .fingerprint .ensures) _ _
+    (c .before .before .before .if2 .left) (c .before .before .arena-in .ensures) (c .before .u64-at .ensures) (omega arith))
 
-add-t13 : tie.Need-add-t13
-add-t13 c = let h = headed _ (c .before .before .before .before .before .before .before .before .before .before .before .pre) in omega arith
+add-place : tie.Need-add-place
+add-place c = let h = headed _ (c .before .before .before .before .before .before .before .before .before .before .before .before .pre) in omega arith
 
 returns-4 : tie.Need-returns-4
-returns-4 c = let h = headed _ (c .before .before .before .before .before .before .before .before .before .before .before .pre) in
+returns-4 c = let h = headed _ (c .before .before .before .before .before .before .before .before .before .before .before .before .pre) in
     sym
-    (locate-at _ (c .before .before .before .before .before .before .before .before .before .before .before .args .h) _ _ (c .before .before .before .before .before .before .before .before .before .u32-at .ensures) (c .before .before .before .before .before .before .before .before .pilot-of .ensures) (c .before .before .before .before .before .before .before .if1 .left) _ _ _ (c .before .before .before .before .before .before .slot-of .ensures .0) (c .before .before .before .before .before .u16-at .ensures) (c .before .before .before .before .fingerprint .ensures) _ _
-    (c .before .before .before .if2 .left) (c .before .before .u64-at .ensures) (c .before .u64-at2 .ensures) (omega arith))
+    (locate-at _ (c .before .before .before .before .before .before .before .before .before .before .before .before .args .h) _ _ (c .before .before .before .before .before .before .before .before .before .before .keys-in .ensures) (c .before .before .before .before .before .before .before .before .before .pilot-of .ensures) (leb-false _ _ (sym (c .before .before .before .before .before .before .before .before .direct-past .ensures) ∙ c .before .before .before .before .before .before .before .if1 .left)) _ _ _ (c .before .before .before .before .before .before .slot-of .ensures .0) (c .before .before .before .before .before .u16-at .ensures) (c .before .before .before .before .fingerprint .ensures) _ _
+    (c .before .before .before .if2 .left) (c .before .before .arena-in .ensures) (c .before .u64-at .ensures) (omega arith))
 
 pub locate-hash-spec : {M : Type 1} → statement M
 locate-hash-spec =
     tie.close
     (tie.spec
-    u32-at-requires
-    cast-if1
-    add-if1
+    keys-in-requires
     pilot-of-requires
-    cast-if1-2
+    direct-past-requires
     returns
     slot-of-requires
     add-u16-at
     u16-at-requires
     fingerprint-requires
     returns-2
+    arena-in-requires
     u64-at-requires
-    u64-at-requires-2
     sub-if3
     returns-3
-    add-t13
+    add-place
     returns-4)

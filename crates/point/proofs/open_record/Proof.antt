@@ -1,80 +1,47 @@
--- `open_record` tests the record's head, its key's end and its key, as `openRecordOf` says. Assumes nothing.
-use mathlib.Core.Path.{sym}
-use Rattle.point.proofs.GetLaws.{record-short, record-cut, record-other, record-same}
-use native.Mathlib.Omega.{arith}
+-- `open_record` reads the record's head, and compares its key, as `openRecordOf` says. Assumes nothing.
+use mathlib.Core.Path.{sym, ap, _∙_}
+use mathlib.Core.List.{List}
+use Prim.Native.Nat.{ℕ}
 use borrow.Author.Needs.{needs}
+use Rattle.words.specs.Part.{sameAs}
+use Rattle.records.specs.declared.cursor.Head.{Head}
+use Rattle.records.proofs.CursorLaws.{head-read}
+use Rattle.point.specs.declared.Opened.the-variants.{Open}
+use Rattle.point.proofs.GetLaws.{record-outside, record-other, record-same}
 use Rattle.point.proofs.open_record.Statement.{statement}
 use Rattle.point.proofs.open_record.Tie as tie
 
-returns : tie.Need-returns
-returns c = sym (record-short _ _ _ (omega arith))
+head-at-requires : tie.Need-head-at-requires
+head-at-requires c κs = search needs
 
-sub-if2 : tie.Need-sub-if2
-sub-if2 c = search needs
+enum-known-read : tie.Need-enum-known-read
+enum-known-read c = search needs
 
-returns-2 : tie.Need-returns-2
-returns-2 c = sym (record-short _ _ _ (omega arith))
-
-add-from : tie.Need-add-from
-add-from c = search needs
-
-u32-at-requires : tie.Need-u32-at-requires
-u32-at-requires c κs = search needs
-
-cast-size : tie.Need-cast-size
-cast-size c = search needs
-
-sub-if3 : tie.Need-sub-if3
-sub-if3 c = search needs
-
-returns-3 : tie.Need-returns-3
-returns-3 c = sym (record-cut _ _ (c .before .before .before .before .before .before .args .place) _ (omega arith) (c .before .u32-at .ensures) (omega arith))
-
-add-first : tie.Need-add-first
-add-first c = search needs
-
-sub-same : tie.Need-sub-same
-sub-same c = search needs
-
-part-same-start : tie.Need-part-same-start
-part-same-start c = search needs
-
-part-same-end : tie.Need-part-same-end
-part-same-end c = search needs
+key-at-requires : tie.Need-key-at-requires
+key-at-requires c κs = head-read _ _ (c .before .read .given .0 .0) (sym (c .before .before .before .head-at .ensures) ∙ c .before .read .given .1) .0
 
 same-requires : tie.Need-same-requires
 same-requires c κs = search needs
 
-add-u32-at : tie.Need-add-u32-at
-add-u32-at c = search needs
+returns : tie.Need-returns
+returns c =
+    let a = c .before .before .before .before .before .before .before .before .before .args in
+    let w = head-read (a .body .now) (a .place) (c .before .before .before .before .read .given .0 .0) (sym (c .before .before .before .before .before .before .head-at .ensures) ∙ c .before .before .before .before .read .given .1) in
+    let s = ap (λ (k : List ℕ). sameAs k (a .key .now)) (sym (c .before .before .key-at .ensures)) ∙ sym (c .before .same .ensures) ∙ c .if1 .taken in
+    sym (record-same (a .body .now) (a .key .now) (a .place) (w .0) s ∙ ap (λ (h : Head). Open (record { first = h .first; count = h .versions })) (w .1))
 
-u32-at-requires-2 : tie.Need-u32-at-requires-2
-u32-at-requires-2 c κs = search needs
+enum-told : tie.Need-enum-told
+enum-told c = search needs
 
-returns-4 : tie.Need-returns-4
-returns-4 c = sym (record-same _ (c .before .before .before .before .before .before .before .before .before .before .args .key .now) (c .before .before .before .before .before .before .before .before .before .before .args .place) _ (omega arith) (c .before .before .before .before .before .u32-at .ensures) (omega arith) _ (c .before .before .same .ensures) _ (c .before .if4 .taken) (c .u32-at2 .ensures))
+returns-2 : tie.Need-returns-2
+returns-2 c =
+    let a = c .before .before .before .before .before .before .before .before .before .args in
+    let w = head-read (a .body .now) (a .place) (c .before .before .before .before .read .given .0 .0) (sym (c .before .before .before .before .before .before .head-at .ensures) ∙ c .before .before .before .before .read .given .1) in
+    let s = ap (λ (k : List ℕ). sameAs k (a .key .now)) (sym (c .before .before .key-at .ensures)) ∙ sym (c .before .same .ensures) ∙ c .if1 .left in
+    sym (record-other (a .body .now) (a .key .now) (a .place) (w .0) s)
 
-returns-5 : tie.Need-returns-5
-returns-5 c = sym (record-other _ (c .before .before .before .before .before .before .before .before .before .args .key .now) (c .before .before .before .before .before .before .before .before .before .args .place) _ (omega arith) (c .before .before .before .before .u32-at .ensures) (omega arith) _ (c .before .same .ensures) (c .if4 .left))
+returns-3 : tie.Need-returns-3
+returns-3 c = sym (record-outside _ _ _ (sym (c .before .before .head-at .ensures) ∙ c .enum-told .given .1))
 
 pub open-record-spec : {M : Type 1} → statement M
-open-record-spec =
-    tie.close
-    (tie.spec
-    returns
-    sub-if2
-    returns-2
-    add-from
-    u32-at-requires
-    cast-size
-    sub-if3
-    returns-3
-    add-first
-    sub-same
-    part-same-start
-    part-same-end
-    same-requires
-    add-u32-at
-    u32-at-requires-2
-    returns-4
-    returns-5)
+open-record-spec = tie.close (tie.spec head-at-requires enum-known-read key-at-requires same-requires returns enum-told returns-2 returns-3)

@@ -1,8 +1,8 @@
 -- `pilots_refusal` is 22 or 0. The loop's invariant: what the pilots from `i` on say is what all say. Assumes nothing.
 use Prim.Native.Nat.{_≤_, _-_}
-use mathlib.Core.Path.{_≡_, sym, _∙_}
+use mathlib.Core.Path.{_≡_, sym, ap, _∙_}
 use native.Mathlib.Nat.{sub-zero}
-use Rattle.point.specs.Layout.{keysIn, bucketsIn, pilotAt}
+use Rattle.point.specs.Layout.{keysIn, bucketsIn, pilotAt, directPast}
 use Rattle.point.specs.Validate.{pilotsRefusal}
 use Rattle.point.proofs.HeaderLaws.{headed}
 use Rattle.point.proofs.ValidateLaws.{pilots-past, pilots-next, pilots-end}
@@ -17,23 +17,17 @@ Inv-loop body n b i₀ i = (n ≡ keysIn body) × (b ≡ bucketsIn body) × (i �
 abbrev μ-loop : tie.MeasureT-loop
 μ-loop body n b i₀ i = b - i
 
-u32-at-requires : tie.Need-u32-at-requires Inv-loop μ-loop
-u32-at-requires c κs = let h = headed _ (c .before .pre) in omega arith
+keys-in-requires : tie.Need-keys-in-requires Inv-loop μ-loop
+keys-in-requires c κs = let h = headed _ (c .before .pre) in omega arith
 
-cast-n : tie.Need-cast-n Inv-loop μ-loop
-cast-n c = search needs
-
-u32-at-requires-2 : tie.Need-u32-at-requires-2 Inv-loop μ-loop
-u32-at-requires-2 c κs = let h = headed _ (c .before .before .pre) in omega arith
+buckets-in-requires : tie.Need-buckets-in-requires Inv-loop μ-loop
+buckets-in-requires c κs = let h = headed _ (c .before .before .pre) in omega arith
 
 cast-b : tie.Need-cast-b Inv-loop μ-loop
 cast-b c = search needs
 
 loop-holds : tie.Need-loop-holds Inv-loop μ-loop
-loop-holds c = (c .before .u32-at .ensures, c .u32-at2 .ensures, omega arith, cc (sub-zero (c .u32-at2 .result), c .before .u32-at .ensures, c .u32-at2 .ensures))
-
-add-if1 : tie.Need-add-if1 Inv-loop μ-loop
-add-if1 c = search needs
+loop-holds c = (c .before .keys-in .ensures, c .buckets-in .ensures, omega arith, cc (sub-zero (c .buckets-in .result), c .before .keys-in .ensures, c .buckets-in .ensures))
 
 mul-u32-at : tie.Need-mul-u32-at Inv-loop μ-loop
 mul-u32-at c = let h = headed _ (c .before .before .before .before .before .pre) in let l = c .before .loop .inv in omega arith
@@ -41,16 +35,17 @@ mul-u32-at c = let h = headed _ (c .before .before .before .before .before .pre)
 add-u32-at : tie.Need-add-u32-at Inv-loop μ-loop
 add-u32-at c = let h = headed _ (c .before .before .before .before .before .pre) in let l = c .before .loop .inv in omega arith
 
-u32-at-requires-3 : tie.Need-u32-at-requires-3 Inv-loop μ-loop
-u32-at-requires-3 c κs = let h = headed _ (c .before .before .before .before .before .pre) in let l = c .before .loop .inv in omega arith
+u32-at-requires : tie.Need-u32-at-requires Inv-loop μ-loop
+u32-at-requires c κs = let h = headed _ (c .before .before .before .before .before .pre) in let l = c .before .loop .inv in omega arith
 
-cast-if1 : tie.Need-cast-if1 Inv-loop μ-loop
-cast-if1 c = search needs
+direct-past-requires : tie.Need-direct-past-requires Inv-loop μ-loop
+direct-past-requires c κs = search needs
 
 returns : tie.Need-returns Inv-loop μ-loop
-returns c = let l = c .before .before .before .loop in
-    let e : pilotAt (c .before .before .before .before .before .before .before .args .body .now) (l .i) ≡ c .before .u32-at3 .result = sym (c .before .u32-at3 .ensures) in
-    sym (pilots-past _ _ (l .i) _ (omega arith) (omega arith)) ∙ l .inv .3
+returns c =
+    let l = c .before .before .before .before .loop in
+    let e : pilotAt (c .before .before .before .before .before .before .before .before .args .body .now) (l .i) ≡ c .before .before .u32-at .result = sym (c .before .before .u32-at .ensures) in
+    sym (pilots-past _ _ (l .i) _ (omega arith) (ap (directPast _) e ∙ sym (c .before .direct-past .ensures) ∙ c .if1 .taken)) ∙ l .inv .3
 
 add-i : tie.Need-add-i Inv-loop μ-loop
 add-i c = search needs
@@ -59,9 +54,10 @@ loop-less : tie.Need-loop-less Inv-loop μ-loop
 loop-less c = search needs
 
 loop-again : tie.Need-loop-again Inv-loop μ-loop
-loop-again c = let l = c .before .before .before .loop in
-    let e : pilotAt (c .before .before .before .before .before .before .before .args .body .now) (l .i) ≡ c .before .u32-at3 .result = sym (c .before .u32-at3 .ensures) in
-    (l .inv .0, l .inv .1, omega arith, sym (pilots-next _ _ (l .i) _ (omega arith) (omega arith)) ∙ l .inv .3)
+loop-again c =
+    let l = c .before .before .before .before .loop in
+    let e : pilotAt (c .before .before .before .before .before .before .before .before .args .body .now) (l .i) ≡ c .before .before .u32-at .result = sym (c .before .before .u32-at .ensures) in
+    (l .inv .0, l .inv .1, omega arith, sym (pilots-next _ _ (l .i) _ (omega arith) (ap (directPast _) e ∙ sym (c .before .direct-past .ensures) ∙ c .if1 .left)) ∙ l .inv .3)
 
 returns-2 : tie.Need-returns-2 Inv-loop μ-loop
 returns-2 c = let l = c .before .loop in sym (pilots-end _ _ (l .i) _ (omega arith)) ∙ l .inv .3
@@ -72,16 +68,14 @@ pilots-refusal-spec =
     (tie.spec
     Inv-loop
     μ-loop
-    u32-at-requires
-    cast-n
-    u32-at-requires-2
+    keys-in-requires
+    buckets-in-requires
     cast-b
     loop-holds
-    add-if1
     mul-u32-at
     add-u32-at
-    u32-at-requires-3
-    cast-if1
+    u32-at-requires
+    direct-past-requires
     returns
     add-i
     loop-less

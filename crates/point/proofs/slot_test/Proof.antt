@@ -13,14 +13,14 @@ slot-of-requires c κs = (c .before .pre .0, c .before .pre .1)
 u64-at-requires : tie.Need-u64-at-requires
 u64-at-requires c κs = search needs
 
-u64-at-requires-2 : tie.Need-u64-at-requires-2
-u64-at-requires-2 c κs = let h = headed _ (c .before .before .before .pre .0) in omega arith
+arena-in-requires : tie.Need-arena-in-requires
+arena-in-requires c κs = let h = headed _ (c .before .before .before .pre .0) in omega arith
 
 sub-if1 : tie.Need-sub-if1
 sub-if1 c = search needs
 
 returns : tie.Need-returns
-returns c = sym (slot-elsewhere _ _ (c .before .before .before .before .before .args .p) _ _ _ (c .before .before .before .slot-of .ensures .0) (c .before .before .u64-at .ensures) (c .before .u64-at2 .ensures) (c .if1 .taken))
+returns c = sym (slot-elsewhere _ _ (c .before .before .before .before .before .args .p) _ _ _ (c .before .before .before .slot-of .ensures .0) (c .before .before .u64-at .ensures) (c .before .arena-in .ensures) (c .if1 .taken))
 
 add-u32-at : tie.Need-add-u32-at
 add-u32-at c = search needs
@@ -35,10 +35,10 @@ cast-if2 : tie.Need-cast-if2
 cast-if2 c = search needs
 
 returns-2 : tie.Need-returns-2
-returns-2 c = sym (slot-differs _ _ (c .before .before .before .before .before .before .before .before .args .p) _ _ _ (c .before .before .before .before .before .before .slot-of .ensures .0) (c .before .before .before .before .before .u64-at .ensures) (c .before .before .before .before .u64-at2 .ensures) (c .before .before .before .if1 .left) _ _ (c .before .before .u32-at .ensures) (c .before .fingerprint .ensures) (c .if2 .taken))
+returns-2 c = sym (slot-differs _ _ (c .before .before .before .before .before .before .before .before .args .p) _ _ _ (c .before .before .before .before .before .before .slot-of .ensures .0) (c .before .before .before .before .before .u64-at .ensures) (c .before .before .before .before .arena-in .ensures) (c .before .before .before .if1 .left) _ _ (c .before .before .u32-at .ensures) (c .before .fingerprint .ensures) (c .if2 .taken))
 
 returns-3 : tie.Need-returns-3
-returns-3 c = sym (slot-right _ _ (c .before .before .before .before .before .before .before .before .args .p) _ _ _ (c .before .before .before .before .before .before .slot-of .ensures .0) (c .before .before .before .before .before .u64-at .ensures) (c .before .before .before .before .u64-at2 .ensures) (c .before .before .before .if1 .left) _ _ (c .before .before .u32-at .ensures) (c .before .fingerprint .ensures) (c .if2 .left))
+returns-3 c = sym (slot-right _ _ (c .before .before .before .before .before .before .before .before .args .p) _ _ _ (c .before .before .before .before .before .before .slot-of .ensures .0) (c .before .before .before .before .before .u64-at .ensures) (c .before .before .before .before .arena-in .ensures) (c .before .before .before .if1 .left) _ _ (c .before .before .u32-at .ensures) (c .before .fingerprint .ensures) (c .if2 .left))
 
 pub slot-test-spec : {M : Type 1} → statement M
 slot-test-spec =
@@ -46,7 +46,7 @@ slot-test-spec =
     (tie.spec
     slot-of-requires
     u64-at-requires
-    u64-at-requires-2
+    arena-in-requires
     sub-if1
     returns
     add-u32-at

@@ -28,29 +28,32 @@ returns-3 : tie.Need-returns-3
 unfolding addRefusal addCauses
 returns-3 c = rw (← (c .before .before .before .fits2 .ensures), c .before .before .if1 .left, le-ltb _ _ (c .before .if2 .left), lt-ltb _ _ (c .if3 .taken))
 
-withdrawn-with-value-requires : tie.Need-withdrawn-with-value-requires
-withdrawn-with-value-requires c κs = search needs
+byte-requires : tie.Need-byte-requires
+byte-requires c κs = search needs
+
+full-tombstone-requires : tie.Need-full-tombstone-requires
+full-tombstone-requires c κs = search needs
 
 returns-4 : tie.Need-returns-4
 unfolding addRefusal addCauses
 returns-4 c =
-    rw (← (c .before .before .before .before .before .fits2 .ensures), c .before .before .before .before .if1 .left, le-ltb _ _ (c .before .before .before .if2 .left), le-ltb _ _ (c .before .before .if3 .left), ← (c .before .withdrawn-with-value .ensures), c .if4 .taken)
+    rw (← (c .before .before .before .before .before .before .fits2 .ensures), c .before .before .before .before .before .if1 .left, le-ltb _ _ (c .before .before .before .before .if2 .left), le-ltb _ _ (c .before .before .before .if3 .left), ← (c .before .before .byte .ensures), ← (c .before .full-tombstone .ensures), c .if4 .taken)
 
 new-refusal-requires : tie.Need-new-refusal-requires
-new-refusal-requires c κs = (sym (c .before .before .before .before .before .before .fits2 .ensures) ∙ not-false (c .before .before .before .before .before .before .fits2 .result) (c .before .before .before .before .before .if1 .left), omega arith)
+new-refusal-requires c κs = (sym (c .before .before .before .before .before .before .before .fits2 .ensures) ∙ not-false (c .before .before .before .before .before .before .before .fits2 .result) (c .before .before .before .before .before .before .if1 .left), omega arith)
 
 returns-5 : tie.Need-returns-5
 unfolding addRefusal addCauses
 returns-5 c =
-    rw (← (c .before .before .before .before .before .before .before .fits2 .ensures), c .before .before .before .before .before .before .if1 .left, le-ltb _ _ (c .before .before .before .before .before .if2 .left), le-ltb _ _ (c .before .before .before .before .if3 .left), ← (c .before .before .before .withdrawn-with-value .ensures), c .before .before .if4 .left, c .before .if5 .taken) (c .new-refusal .ensures)
+    rw (← (c .before .before .before .before .before .before .before .before .fits2 .ensures), c .before .before .before .before .before .before .before .if1 .left, le-ltb _ _ (c .before .before .before .before .before .before .if2 .left), le-ltb _ _ (c .before .before .before .before .before .if3 .left), ← (c .before .before .before .before .byte .ensures), ← (c .before .before .before .full-tombstone .ensures), c .before .before .if4 .left, c .before .if5 .taken) (c .new-refusal .ensures)
 
 continued-refusal-requires : tie.Need-continued-refusal-requires
-continued-refusal-requires c κs = sym (c .before .before .before .before .before .before .fits2 .ensures) ∙ not-false (c .before .before .before .before .before .before .fits2 .result) (c .before .before .before .before .before .if1 .left)
+continued-refusal-requires c κs = sym (c .before .before .before .before .before .before .before .fits2 .ensures) ∙ not-false (c .before .before .before .before .before .before .before .fits2 .result) (c .before .before .before .before .before .before .if1 .left)
 
 returns-6 : tie.Need-returns-6
 unfolding addRefusal addCauses
 returns-6 c =
-    rw (← (c .before .before .before .before .before .before .before .fits2 .ensures), c .before .before .before .before .before .before .if1 .left, le-ltb _ _ (c .before .before .before .before .before .if2 .left), le-ltb _ _ (c .before .before .before .before .if3 .left), ← (c .before .before .before .withdrawn-with-value .ensures), c .before .before .if4 .left, c .before .if5 .left) (c .continued-refusal .ensures)
+    rw (← (c .before .before .before .before .before .before .before .before .fits2 .ensures), c .before .before .before .before .before .before .before .if1 .left, le-ltb _ _ (c .before .before .before .before .before .before .if2 .left), le-ltb _ _ (c .before .before .before .before .before .if3 .left), ← (c .before .before .before .before .byte .ensures), ← (c .before .before .before .full-tombstone .ensures), c .before .before .if4 .left, c .before .if5 .left) (c .continued-refusal .ensures)
 
 pub add-refusal-spec : {M : Type 1} → statement M
 add-refusal-spec =
@@ -62,7 +65,8 @@ add-refusal-spec =
     returns-2
     cast-if3
     returns-3
-    withdrawn-with-value-requires
+    byte-requires
+    full-tombstone-requires
     returns-4
     new-refusal-requires
     returns-5

@@ -1,21 +1,16 @@
--- `construct::keys::hash_keys` meets its contract. The loop's invariant: p is the place of entry i, and the first i hashes stand. Assumes nothing.
-use Prim.Native.Nat.{ℕ, _-_, _≤_, _<_}
-use mathlib.Core.Path.{_≡_, refl, sym, ap, _∙_, subst}
-use mathlib.Core.List.{List}
+-- `hash_keys` stores the keys' hashes one after another. The loop's invariant: p is the place of entry i, and the first i hashes stand. Assumes nothing.
+use Prim.Native.Nat.{_-_, _≤_, _<_}
+use mathlib.Core.Path.{_≡_, refl, sym, ap, _∙_}
 use native.Mathlib.Omega.{arith}
 use denote.Ref.{now}
 use lib.ListN.{length, take, length-set}
 use lib.Seq.{take-all}
 use borrow.Author.Needs.{needs}
 use Rattle.records.specs.Places.{nextEntry, entryPlace}
-use Rattle.construct.specs.Keys.{Entries, hashesOf}
-use Rattle.construct.proofs.KeysLaws.{entry-first, entry-next, entry-rises, hashes-none, hashes-more}
+use Rattle.construct.specs.Keys.{hashesOf}
+use Rattle.construct.proofs.KeysLaws.{entry-first, entry-next, entry-inside, hashes-none, hashes-more}
 use Rattle.construct.proofs.keys.hash_keys.Statement.{statement}
 use Rattle.construct.proofs.keys.hash_keys.Tie as tie
-
--- entry i lies inside the arena, where i is less than the n that do
-inside : (arena : List ℕ) (n i p : ℕ) → Entries arena n → p ≡ entryPlace arena 0 i → i < n → nextEntry arena p ≤ length arena
-inside arena n i p E e l = subst (λ (x : ℕ). nextEntry arena x ≤ length arena) (sym e) (omega (arith, entry-rises arena i n l, E))
 
 abbrev Inv-loop : tie.InvT-loop
 Inv-loop arena hashes₀ seed p₀ i₀ hashes p i = (i ≤ length hashes₀) × (length hashes ≡ length hashes₀) × (p ≡ entryPlace arena 0 i) × (take i hashes ≡ hashesOf seed arena i)
@@ -27,7 +22,7 @@ loop-holds : tie.Need-loop-holds Inv-loop μ-loop
 loop-holds c = (omega arith, refl, sym (entry-first _), sym (hashes-none _ _))
 
 hash-at-requires : tie.Need-hash-at-requires Inv-loop μ-loop
-hash-at-requires c κs = inside _ _ (c .before .loop .i) _ (c .before .before .before .before .pre) (c .before .loop .inv .2) low
+hash-at-requires c κs = entry-inside _ _ (c .before .loop .i) _ (c .before .before .before .before .pre) (c .before .loop .inv .2) low
   where
     low : c .before .loop .i < length (now (c .before .before .before .before .args .hashes))
     low = omega arith
@@ -42,7 +37,7 @@ next-entry-requires : tie.Need-next-entry-requires Inv-loop μ-loop
 next-entry-requires c κs =
     let pre = c .before .before .before .before .before .pre in
     let loop = c .before .before .loop in
-    inside _ _ (loop .i) _ pre (loop .inv .2) low
+    entry-inside _ _ (loop .i) _ pre (loop .inv .2) low
   where
     low : c .before .before .loop .i < length (now (c .before .before .before .before .before .args .hashes))
     low = omega arith

@@ -2,10 +2,11 @@
 use Prim.Native.Nat.{_+_}
 use mathlib.Core.Path.{sym}
 use mathlib.Core.List.{[]}
+use native.Mathlib.Nat.{add-sub-cancel-left}
 use native.Mathlib.Omega.{arith}
 use borrow.Author.Needs.{needs}
 use Rattle.construct.specs.Construct.{tries}
-use Rattle.construct.proofs.BenchLaws.{bench-inside, bench-keys, bench-group, span, lent-ready, lent-none, lent-some}
+use Rattle.construct.proofs.BenchLaws.{bench-inside, bench-keys, bench-group, lent-ready, lent-none, lent-some}
 use Rattle.construct.proofs.place.place_group.Statement.{statement}
 use Rattle.construct.proofs.place.place_group.Tie as tie
 
@@ -84,7 +85,7 @@ find-pilot-requires : tie.Need-find-pilot-requires
 find-pilot-requires c κs =
     let pre = c .before .before .before .before .before .before .before .pre in
     let args = c .before .before .before .before .before .before .before .args in
-    lent-ready _ _ _ _ (pre .0) _ (pre .1) _ (span (args .b + 1 + args .b) (args .n)) _ [] 0 (bench-group _ _ _ _ (pre .0) _ (pre .1))
+    lent-ready _ _ _ _ (pre .0) _ (pre .1) _ (add-sub-cancel-left (args .b + 1 + args .b) (args .n)) _ [] 0 (bench-group _ _ _ _ (pre .0) _ (pre .1))
 
 same-length : tie.Need-same-length
 same-length c = search needs
@@ -95,7 +96,7 @@ returns c =
     let pre = c .before .before .before .before .before .before .before .before .before .before .before .pre in
     let args = c .before .before .before .before .before .before .before .before .before .before .before .args in
     let find-pilot = c .before .before .before .find-pilot in
-    lent-none _ _ _ _ (pre .0) _ (pre .1) _ (span (args .b + 1 + args .b) (args .n)) _ _ _ (bench-group _ _ _ _ (pre .0) _ (pre .1)) (find-pilot .ensures) (c .if1 .taken)
+    lent-none _ _ _ _ (pre .0) _ (pre .1) _ (add-sub-cancel-left (args .b + 1 + args .b) (args .n)) _ _ _ (bench-group _ _ _ _ (pre .0) _ (pre .1)) (find-pilot .ensures) (c .if1 .taken)
 
 add-w : tie.Need-add-w
 add-w c = search needs
@@ -118,7 +119,7 @@ returns-2 c =
     let pre = c .before .before .before .before .before .before .before .before .before .before .before .pre in
     let args = c .before .before .before .before .before .before .before .before .before .before .before .args in
     let find-pilot = c .before .before .before .find-pilot in
-    lent-some _ _ _ _ (pre .0) _ (pre .1) _ (span (args .b + 1 + args .b) (args .n)) _ _ _ (bench-group _ _ _ _ (pre .0) _ (pre .1)) (find-pilot .ensures) (c .if1 .left) (find-pilot .kept .1 .1 .0)
+    lent-some _ _ _ _ (pre .0) _ (pre .1) _ (add-sub-cancel-left (args .b + 1 + args .b) (args .n)) _ _ _ (bench-group _ _ _ _ (pre .0) _ (pre .1)) (find-pilot .ensures) (c .if1 .left) (find-pilot .kept .1 .1 .0)
 
 pub place-group-spec : {M : Type 1} → statement M
 place-group-spec =

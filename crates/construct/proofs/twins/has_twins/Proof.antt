@@ -5,7 +5,7 @@ use mathlib.Core.Bool.{false}
 use native.Mathlib.Omega.{arith}
 use lib.ListN.{length}
 use borrow.Author.Needs.{needs}
-use Rattle.laws.specs.Steps.{anyBelow, any-none, any-hit, any-miss}
+use Rattle.laws.specs.Steps.{anyBelow, any-none, any-some, any-miss}
 use Rattle.construct.specs.Construct.{met, twins}
 use Rattle.construct.proofs.twins.has_twins.Statement.{statement}
 use Rattle.construct.proofs.twins.has_twins.Tie as tie
@@ -26,7 +26,7 @@ returns : tie.Need-returns Inv-loop μ-loop
 unfolding twins
 returns c =
     let l = c .before .before .before .loop in
-    sym (any-hit _ (l .j) _ (c .before .before .loop-test .taken) (sym (c .before .met-before .ensures) ∙ c .if1 .taken) (l .inv .1))
+    sym (any-some _ (l .j) _ (c .before .before .loop-test .taken) (sym (c .before .met-before .ensures) ∙ c .if1 .taken))
 
 add-j : tie.Need-add-j Inv-loop μ-loop
 add-j c = search needs

@@ -5,7 +5,7 @@ use mathlib.Core.Bool.{false}
 use native.Mathlib.Omega.{arith}
 use borrow.Author.Tests.{eq-eqb, ne-eqb}
 use borrow.Author.Needs.{needs}
-use Rattle.laws.specs.Steps.{anyBelow, any-none, any-hit, any-miss}
+use Rattle.laws.specs.Steps.{anyBelow, any-none, any-some, any-miss}
 use Rattle.construct.specs.Construct.{alike, met}
 use Rattle.construct.proofs.twins.met_before.Statement.{statement}
 use Rattle.construct.proofs.twins.met_before.Tie as tie
@@ -32,7 +32,7 @@ returns c =
     let hash-of = c .before .before .before .before .hash-of in
     let loop-test = c .before .before .loop-test in
     let hash-of2 = c .before .hash-of2 in
-    sym (any-hit _ (l .i) _ (loop-test .taken) (eq-eqb _ _ (sym (hash-of2 .ensures) ∙ c .if1 .taken ∙ hash-of .ensures)) (l .inv .1))
+    sym (any-some _ (l .i) _ (loop-test .taken) (eq-eqb _ _ (sym (hash-of2 .ensures) ∙ c .if1 .taken ∙ hash-of .ensures)))
 
 add-i : tie.Need-add-i Inv-loop μ-loop
 add-i c = search needs

@@ -1,7 +1,10 @@
--- `finish::body::arena_start` meets its contract. Assumes nothing.
+-- `arena_start` is the place behind the last slot. Assumes nothing.
+use mathlib.Core.Path.{ap, _∙_}
+use Prim.Native.Nat.{ℕ}
 use native.Mathlib.Omega.{arith}
 use borrow.Author.Needs.{needs}
-use Rattle.construct.specs.Construct.{bucketsOf}
+use Rattle.mixing.specs.Slots.{few-buckets}
+use Rattle.point.specs.Layout.{slotAt}
 use Rattle.finish.specs.Body.{arenaStart}
 use Rattle.finish.proofs.body.arena_start.Statement.{statement}
 use Rattle.finish.proofs.body.arena_start.Tie as tie
@@ -9,25 +12,15 @@ use Rattle.finish.proofs.body.arena_start.Tie as tie
 buckets-requires : tie.Need-buckets-requires
 buckets-requires c κs = search needs
 
-mul-result : tie.Need-mul-result
-unfolding bucketsOf
-mul-result c = search needs
-
-add-result : tie.Need-add-result
-unfolding bucketsOf
-add-result c = search needs
-
-mul-result-2 : tie.Need-mul-result-2
-mul-result-2 c = search needs
-
-add-result-2 : tie.Need-add-result-2
-unfolding bucketsOf
-add-result-2 c = search needs
+slot-at-requires : tie.Need-slot-at-requires
+slot-at-requires c κs =
+    let few = few-buckets (c .before .args .n) in
+    let e = c .buckets .ensures in
+    (omega arith, omega arith)
 
 returns : tie.Need-returns
 unfolding arenaStart
-returns c = omega arith
+returns c = c .slot-at .ensures ∙ ap (λ (b : ℕ). slotAt b (c .before .before .args .n)) (c .before .buckets .ensures)
 
 pub arena-start-spec : {M : Type 1} → statement M
-arena-start-spec =
-    tie.close (tie.spec buckets-requires mul-result add-result mul-result-2 add-result-2 returns)
+arena-start-spec = tie.close (tie.spec buckets-requires slot-at-requires returns)

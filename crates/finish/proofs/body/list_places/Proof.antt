@@ -5,8 +5,8 @@ use mathlib.Core.Path.{_≡_, refl, sym, ap, _∙_}
 use denote.Ref.{now}
 use lib.ListN.{length, getD, length-set}
 use Rattle.records.specs.Places.{nextEntry, entryPlace}
-use Rattle.construct.proofs.KeysLaws.{entry-first, entry-next}
-use Rattle.finish.proofs.BodyLaws.{listed-more, entry-inside}
+use Rattle.construct.proofs.KeysLaws.{entry-first, entry-next, entry-inside}
+use Rattle.finish.proofs.BodyLaws.{listed-more}
 use borrow.Author.Needs.{needs}
 use Rattle.finish.proofs.body.list_places.Statement.{statement}
 use Rattle.finish.proofs.body.list_places.Tie as tie

@@ -5,7 +5,7 @@ use mathlib.Core.Path.{_≡_, refl, sym, ap, _∙_}
 use mathlib.Core.Bool.{false}
 use lib.ListN.{length}
 use borrow.Author.Needs.{needs}
-use Rattle.laws.specs.Steps.{anyBelow, any-none, any-hit, any-miss}
+use Rattle.laws.specs.Steps.{anyBelow, any-none, any-some, any-miss}
 use Rattle.finish.specs.Finish.{unmatchedAt, mismatch}
 use Rattle.finish.proofs.CheckLaws.{unmatched-at}
 use Rattle.finish.proofs.check.mismatch.Statement.{statement}
@@ -33,7 +33,7 @@ returns : tie.Need-returns Inv-loop μ-loop
 unfolding mismatch
 returns c =
     let l = c .before .before .before .before .loop in
-    sym (any-hit _ (l .s) _ (omega arith) (unmatched-at _ _ _ _ _ _ (l .inv .0) (c .before .unmatched .ensures) ∙ c .if1 .taken) (l .inv .2))
+    sym (any-some _ (l .s) _ (omega arith) (unmatched-at _ _ _ _ _ _ (l .inv .0) (c .before .unmatched .ensures) ∙ c .if1 .taken))
 
 add-s : tie.Need-add-s Inv-loop μ-loop
 add-s c = search needs

@@ -1,4 +1,4 @@
--- `finish::check::unmatched` meets its contract. Assumes nothing.
+-- `unmatched`: a slot unfilled, one that holds no key, or one whose key has another index. Assumes nothing.
 use native.Mathlib.Omega.{arith}
 use borrow.Author.Needs.{needs}
 use Rattle.finish.proofs.CheckLaws.{unmatched-free, unmatched-past, unmatched-by}

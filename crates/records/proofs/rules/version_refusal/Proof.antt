@@ -53,6 +53,9 @@ returns-4 c =
     let a = c .before .before .before .before .before .before .before .before .before .before .args in
     version-out (a .bytes .now) (a .test) (a .prev) (a .p) (omega arith) (sym (c .before .before .before .before .before .before .bad-kind .ensures) ∙ c .before .before .before .before .before .if2 .left) (omega arith) _ _ (c .before .before .before .before .u32-at .ensures) (c .before .before .u64-at .ensures) (sym (c .before .past-data .ensures) ∙ c .if4 .taken)
 
+cast-full-tombstone : tie.Need-cast-full-tombstone
+cast-full-tombstone c = search needs
+
 full-tombstone-requires : tie.Need-full-tombstone-requires
 full-tombstone-requires c κs = search needs
 
@@ -91,6 +94,7 @@ version-refusal-spec =
     u64-at-requires
     past-data-requires
     returns-4
+    cast-full-tombstone
     full-tombstone-requires
     returns-5
     sequence-falls-requires

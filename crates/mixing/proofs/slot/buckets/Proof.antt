@@ -1,9 +1,9 @@
--- `construct::group::buckets` meets its contract. A third, rounded up. Assumes nothing.
+-- `buckets` is a third, rounded up, by the remainder. Assumes nothing.
 use native.Mathlib.Omega.{arith}
 use borrow.Author.Needs.{needs}
-use Rattle.construct.specs.Construct.{bucketsOf}
-use Rattle.construct.proofs.group.buckets.Statement.{statement}
-use Rattle.construct.proofs.group.buckets.Tie as tie
+use Rattle.mixing.specs.Slots.{bucketsOf}
+use Rattle.mixing.proofs.slot.buckets.Statement.{statement}
+use Rattle.mixing.proofs.slot.buckets.Tie as tie
 
 returns : tie.Need-returns
 unfolding bucketsOf

@@ -3,9 +3,9 @@ use native.Mathlib.Omega.{arith}
 use borrow.Author.Needs.{needs}
 use Prim.Native.Nat.{_+_, _-_}
 use mathlib.Core.Path.{_≡_}
 use Rattle.records.specs.Places.{keyLength, keyAt}
-use Rattle.builder.proofs.key_at.Statement.{statement}
-use Rattle.builder.proofs.key_at.Tie as tie
+use Rattle.records.proofs.cursor.key_at.Statement.{statement}
+use Rattle.records.proofs.cursor.key_at.Tie as tie
 
 add-from : tie.Need-add-from
 add-from c = search needs
@@ -32,7 +32,7 @@ returns : tie.Need-returns
 unfolding keyAt
 returns c =
     let s = c .before .before .before .args in
-    let e : s .head + 8 + c .before .u32-at .result - (s .head + 8) ≡ keyLength (s .arena .now) (s .head) = omega arith in
+    let e : s .p + 8 + c .before .u32-at .result - (s .p + 8) ≡ keyLength (s .bytes .now) (s .p) = omega arith in
     rw e
 
 pub key-at-spec : {M : Type 1} → statement M

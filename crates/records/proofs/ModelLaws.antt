@@ -1,0 +1,69 @@
+-- Laws of the model: the rest of versions that fall and of keys that rise, a key's records among rising keys, what is less, what the
+-- greatest record within a limit has, and that a record or none is no damage. Assumes nothing.
+use mathlib.Core.Path.{_≡_, refl}
+use mathlib.Core.Bool.{Bool, true, false, cond, _&&_}
+use mathlib.Core.List.{List, [], _∷_}
+use mathlib.Core.Option.{Option, none, some}
+use Prim.Native.Nat.{ℕ}
+use native.Mathlib.Omega.{arith}
+use lib.Dec.{leb}
+use Rattle.laws.specs.Each.{Each}
+use Rattle.laws.specs.Each.Each.{each-none, each-more}
+use Rattle.words.specs.declared.part.Order.{Order}
+use Rattle.words.specs.declared.part.Order.the-variants.{Less, Equal, Greater}
+use Rattle.words.specs.Part.{orderOf}
+use Rattle.words.proofs.Ordered.{order-apart, order-trans}
+use Rattle.records.specs.declared.Record.{Record}
+use Rattle.records.specs.declared.Limit.{Limit}
+use Rattle.records.specs.declared.Within.the-variants.{Damaged}
+use Rattle.records.specs.Model.{Entry, within, recordsOf, better, greatest, Falls, Rises}
+use Rattle.records.specs.Model.Falls.{falls-none, falls-more}
+use Rattle.records.specs.Model.Rises.{rises-none, rises-more}
+use Rattle.records.specs.Rules.{isLess}
+use Rattle.records.specs.Within.{foundOf}
+
+pub falls-rest : (r : Record) (rs : List Record) → Falls (r ∷ rs) → Falls rs
+falls-rest r [] f = falls-none
+falls-rest r (s ∷ rs) (falls-more l f) = f
+
+pub rises-rest : (e : Entry) (es : List Entry) → Rises (e ∷ es) → Rises es
+rises-rest e [] f = rises-none
+rises-rest e (d ∷ es) (rises-more l f) = f
+
+-- a key has no records behind it, where keys rise
+records-above : (key : List ℕ) (e : Entry) (es : List Entry) → orderOf key (e .key) ≡ Less → Rises (e ∷ es) → recordsOf (e ∷ es) key ≡ []
+unfolding recordsOf
+records-above key e [] l g = rw (order-apart key (e .key) l .1)
+records-above key e (f ∷ es) l (rises-more b g) = rw (order-apart key (e .key) l .1) (records-above key f es (order-trans key (e .key) (f .key) l b) g)
+
+pub records-behind : (e : Entry) (es : List Entry) → Rises (e ∷ es) → recordsOf es (e .key) ≡ []
+unfolding recordsOf
+records-behind e [] g = refl
+records-behind e (f ∷ es) (rises-more b g) = records-above (e .key) f es b g
+
+pub less-is : (o : Order) → isLess o ≡ true → o ≡ Less
+less-is Less e = refl
+less-is Equal e = cc
+less-is Greater e = cc
+
+pub found-whole : (o : Option Record) → foundOf o ≡ Damaged → ⊥
+found-whole none e = let z : _≡_ {A = ℕ} 0 1 = cc in omega arith
+found-whole (some r) e = let z : _≡_ {A = ℕ} 0 1 = cc in omega arith
+
+-- what every record has, the greatest within a limit has
+pub greatest-has : {P : Record → Type 0} (limit : Limit) (rs : List Record) (r : Record) → Each P rs → greatest limit rs ≡ some r → P r
+unfolding greatest better
+greatest-has limit [] r each-none e = absurd (let z : _≡_ {A = ℕ} 0 1 = cc in omega arith)
+greatest-has {P} limit (x ∷ xs) r (each-more p ps) e = go (greatest limit xs) (λ s q. greatest-has limit xs s ps q) e
+  where
+    go : (o : Option Record) → ((s : Record) → o ≡ some s → P s) → better limit x o ≡ some r → P r
+    go none h q = pick (within limit (x .sequence)) q
+      where
+        pick : (b : Bool) → cond b (some x) none ≡ some r → P r
+        pick true f = let d : x ≡ r = cc in rw d at p
+        pick false f = absurd (let z : _≡_ {A = ℕ} 0 1 = cc in omega arith)
+    go (some s) h q = pick (within limit (x .sequence) && leb (s .sequence) (x .sequence)) q
+      where
+        pick : (b : Bool) → cond b (some x) (some s) ≡ some r → P r
+        pick true f = let d : x ≡ r = cc in rw d at p
+        pick false f = h r f
