@@ -2,20 +2,18 @@
 use mathlib.Core.Path.{_≡_, refl, sym, ap, _∙_, subst}
 use mathlib.Core.Bool.{Bool, true, false, cond}
 use mathlib.Core.Logic.{_⊎_, inl, inr}
-use mathlib.Core.List.{List, [], _∷_, _++_, append-assoc}
+use mathlib.Core.List.{List, []}
 use Prim.Native.Nat.{ℕ, zero, suc, _+_, _-_, _*_, _^_, _≤_, _<_}
 use native.Mathlib.Omega.{arith}
-use lib.Dec.{ltb, eqb}
-use lib.ListN.{length, getD, take, drop, replicate, length-append}
-use lib.Seq.{drop-drop}
-use borrow.Author.Tests.{lt-ltb, le-ltb, ltb-false, eqb-true, eqb-false}
+use lib.Dec.{ltb}
+use lib.ListN.{length, take, drop, replicate}
+use borrow.Author.Tests.{lt-ltb, le-ltb, ltb-false}
 use borrow.Rule.Slice.PartMut.{putMid, put-same, mid-len}
 use Rattle.laws.specs.Refusals.{None, none-here, none-more, Numbered, numbered-none, numbered-more, none-only}
 use Rattle.laws.specs.Count.{count}
-use Rattle.laws.specs.Cases.{eq-or-ne}
-use Rattle.laws.proofs.CountLaws.{by-test, count-cons, count-here}
+use Rattle.laws.specs.Cases.{by-test, eq-or-ne}
 use Rattle.words.specs.Field.{splice}
-use Rattle.words.proofs.Laws.{drop-splice-in}
+use Rattle.words.proofs.PartLaws.{splice-before, splice-back}
 use Rattle.mixing.specs.Mixing.{mixOf}
 use Rattle.fuse.specs.declared.Sizes.{Sizes}
 use Rattle.fuse.specs.Positions.{cellsIn, Usable}
@@ -25,7 +23,7 @@ use Rattle.fuse.proofs.HeaderLaws.{header-length}
 use Rattle.sizing.specs.declared.Plan.{Plan}
 use Rattle.sizing.specs.declared.Plan.the-variants as plan
 use Rattle.sizing.specs.Sizing.{sizesOf, planOf}
-use Rattle.sizing.proofs.SizedLaws.{usable}
+use Rattle.sizing.proofs.SizedLaws.{plan-zero, plan-least, plan-sizes, plan-usable, plan-some}
 use Rattle.sort.specs.Sort.{sorted}
 use Rattle.sort.specs.Twins.{twins}
 use Rattle.sort.proofs.SortLaws.{length-sorted}
@@ -38,43 +36,15 @@ use Rattle.filter.specs.Building.{cellsFor, buildCauses, buildRefusal, R
 
 -- ---- the plan
 
-split-plan : (t : Bool) (x s : Sizes) → cond t plan.Positive (plan.Fuse x) ≡ plan.Fuse s → (t ≡ false) × (x ≡ s)
-split-plan true x s e = (cc, cc)
-split-plan false x s e = (refl, cc)
-
-split-none : (t : Bool) (x : Sizes) → cond t plan.Positive (plan.Fuse x) ≡ plan.Positive → t ≡ true
-split-none true x e = refl
-split-none false x e = cc
-
--- only for no hashes is the plan Positive
-pub plan-zero : (n : ℕ) → planOf n ≡ plan.Positive → n ≡ 0
-unfolding planOf
-plan-zero n e = eqb-true n 0 (split-none (eqb n 0) (sizesOf n) e)
-
 pub cells-none : (n : ℕ) → planOf n ≡ plan.Positive → 0 ≡ cellsFor n
 unfolding cellsFor
 cells-none n e = rw e
 
-module _ (n : ℕ) (s : Sizes) (e : planOf n ≡ plan.Fuse s) where
-  plan-split : (eqb n 0 ≡ false) × (sizesOf n ≡ s)
-  unfolding planOf
-  plan-split = split-plan (eqb n 0) (sizesOf n) s e
+pub plan-cells : (n : ℕ) (s : Sizes) → planOf n ≡ plan.Fuse s → cellsIn (s .segment) (s .count) ≡ cellsFor n
+unfolding cellsFor
+plan-cells n s e = rw e
 
-  pub plan-some : 1 ≤ n
-  plan-some = let d = eqb-false n 0 (plan-split .0) in omega arith
-
-  pub plan-sizes : sizesOf n ≡ s
-  plan-sizes = plan-split .1
-
-  pub plan-cells : cellsIn (s .segment) (s .count) ≡ cellsFor n
-  unfolding cellsFor
-  plan-cells = rw e
-
-  pub plan-usable : n < 2 ^ 64 → Usable (s .segment) (s .count)
-  unfolding sizesOf
-  plan-usable l = subst (λ (x : Sizes). Usable (x .segment) (x .count)) plan-sizes (usable n plan-some l)
-
--- 65,536 hashes ask for no more cells than a word holds
+-- the cells for n hashes are counted in 32 bits
 pub cells-few : (n : ℕ) → n < 2 ^ 64 → cellsFor n < 2 ^ 32
 cells-few n l = go (planOf n) refl
   where
@@ -248,14 +218,6 @@ module _ (s : Sizes) (hs before after : List ℕ) (seed i : ℕ) (r : Bool) (T :
     T .cells ∙ ap (λ (b : Bool). cond b (cellsOf (s .segment) (s .count) seed hs) before) (sym (T .answer) ∙ f),
   )
 
--- ---- the closing check
-
--- what stands in a list is counted
-pub counted-at : (xs : List ℕ) (i : ℕ) → i < length xs → 1 ≤ count (getD xs i 0) xs
-counted-at [] i l = absurd (omega arith)
-counted-at (x ∷ xs) zero l = omega (arith, count-here x xs)
-counted-at (x ∷ xs) (suc i) l = omega (arith, counted-at xs i (omega arith), count-cons (getD xs i 0) x xs)
-
 -- ---- built over the cells
 
 module _ (s : Sizes) (hs before after : List ℕ) (i : ℕ) (S : Searched s hs before after i) where
@@ -289,17 +251,10 @@ module _ (s : Sizes) (hs before after : List ℕ) (i : ℕ) (S : Searched s hs b
 
 -- ---- the output
 
--- a part put back is a splice
-put-splice : (at k : ℕ) (xs ys : List ℕ) → length ys ≡ k → putMid at k xs ys ≡ splice xs at ys
-unfolding splice
-put-splice at k xs ys e =
-    ap (λ (t : List ℕ). take at xs ++ (ys ++ t)) (drop-drop k at xs ∙ ap (λ (m : ℕ). drop (at + m) xs) (sym e))
-    ∙ sym (append-assoc (take at xs) ys (drop (at + length ys) xs))
-
 pub made-part : (b : Built) (hs out cells : List ℕ) (k : ℕ) → length cells ≡ k → cells ≡ cellsBy b hs (take k (drop 48 out))
     → putMid 48 k out cells ≡ madeBy b hs out
 made-part Positive hs out cells k l e = ap (putMid 48 k out) e ∙ put-same 48 k out
-made-part (Fuse s) hs out cells k l e = put-splice 48 k out cells l ∙ ap (splice out 48) e
+made-part (Fuse s) hs out cells k l e = splice-back 48 k out cells l ∙ ap (splice out 48) e
 made-part (Refused r) hs out cells k l e = ap (putMid 48 k out) e ∙ put-same 48 k out
 
 module _ (hs out : List ℕ) where
@@ -333,56 +288,59 @@ make-spaced n s e wide narrow c out ec R l =
     let m : length (take (48 + c - 48) (drop 48 out)) ≡ 48 + c - 48 = mid-len 48 (48 + c) out (omega (arith, R .out-room)) in
     let k = plan-cells n s e in
     record {
-      usable = plan-usable n s e l;
-      whole = omega arith;
+      fits = record { usable = plan-usable n s e l; whole = omega arith };
       few = omega (arith, R .few);
       wide-room = omega (arith, R .wide-room);
       narrow-room = omega (arith, R .narrow-room);
     }
 
--- ---- a header put in front of cells that stand in their place
+-- ---- what is built, by the way it goes
 
-pub in-front : (xs ys : List ℕ) → splice xs 0 ys ≡ ys ++ drop (length ys) xs
-unfolding splice
-in-front xs ys = ap (λ (k : ℕ). ys ++ drop k xs) {x = 0 + length ys} {y = length ys} (omega arith)
+-- of n hashes: there are none, two are equal, or the attempts decide
+pub data Way (n : ℕ) (hs : List ℕ) : Built → Type 0 where
+  none : n ≡ 0 → Way n hs Positive
+  double : twins hs ≡ true → Way n hs Positive
+  tried : 1 ≤ n → twins hs ≡ false → Way n hs (byAttempt (sizesOf n) (attemptOf (sizesOf n) hs))
 
-front-splice : (xs p q : List ℕ) → length p ≡ 48 → 48 + length q ≤ length xs → splice (splice xs 48 q) 0 p ≡ splice xs 0 (p ++ q)
-front-splice xs p q l r =
-    in-front (splice xs 48 q) p ∙ ap (λ (k : ℕ). p ++ drop k (splice xs 48 q)) l ∙ ap (λ (t : List ℕ). p ++ t) (drop-splice-in xs 48 q r)
-    ∙ sym (append-assoc p q (drop (48 + length q) xs))
-    ∙ ap (λ (k : ℕ). (p ++ q) ++ drop k xs) {x = 48 + length q} {y = length (p ++ q)} (omega (arith, length-append p q))
-    ∙ sym (in-front xs (p ++ q))
-
--- what is built over a plan: Positive, or the plan's sizes with a seed
-pub data OfPlan (n : ℕ) : Built → Type 0 where
-  no-filter : OfPlan n Positive
-  a-filter : (s : Sizes) (a : ℕ) → planOf n ≡ plan.Fuse s → OfPlan n (Fuse (seeded s (mixOf a)))
-
-of-attempt : (n : ℕ) (s : Sizes) → planOf n ≡ plan.Fuse s → (a : ℕ) → OfPlan n (byAttempt s a)
-of-attempt n s e zero = no-filter
-of-attempt n s e (suc a) = a-filter s (suc a) e
-
-pub of-plan : (n : ℕ) (hs : List ℕ) → OfPlan n (byPlan (planOf n) hs)
+pub way : (n : ℕ) (hs : List ℕ) → Way n hs (byPlan (planOf n) hs)
 unfolding byPlan
-of-plan n hs = go (planOf n) refl
+way n hs = go (planOf n) refl
   where
-    go : (p : Plan) → planOf n ≡ p → OfPlan n (byPlan p hs)
-    go plan.Positive e = no-filter
+    by-twins : (b : Bool) → twins hs ≡ b → 1 ≤ n → Way n hs (cond b Positive (byAttempt (sizesOf n) (attemptOf (sizesOf n) hs)))
+    by-twins true t l = double t
+    by-twins false t l = tried l t
+
+    go : (p : Plan) → planOf n ≡ p → Way n hs (byPlan p hs)
+    go plan.Positive e = none (plan-zero n e)
     go (plan.Fuse s) e =
-        by-test (twins hs)
-        (λ t. subst (λ (b : Bool). OfPlan n (cond b Positive (byAttempt s (attemptOf s hs)))) (sym t) no-filter)
-        (λ t. subst (λ (b : Bool). OfPlan n (cond b Positive (byAttempt s (attemptOf s hs)))) (sym t) (of-attempt n s e (attemptOf s hs)))
+        subst (λ (x : Sizes). Way n hs (cond (twins hs) Positive (byAttempt x (attemptOf x hs)))) (plan-sizes n s e) (by-twins (twins hs) refl (plan-least n s e))
 
-not-refused : (n : ℕ) (b : Built) → OfPlan n b → (r : ℕ) → b ≡ Refused r → ⊥
-not-refused n b no-filter r e = let z : _≡_ {A = ℕ} 0 1 = cc in omega arith
-not-refused n b (a-filter s a p) r e = let z : _≡_ {A = ℕ} 0 1 = cc in omega arith
+-- it is no refusal
+pub not-refused : (n : ℕ) (hs : List ℕ) (b : Built) → Way n hs b → (r : ℕ) → b ≡ Refused r → ⊥
+not-refused n hs b (none z) r e = let z : _≡_ {A = ℕ} 0 1 = cc in omega arith
+not-refused n hs b (double t) r e = let z : _≡_ {A = ℕ} 0 1 = cc in omega arith
+not-refused n hs b (tried l t) r e = go (attemptOf (sizesOf n) hs) e
+  where
+    go : (a : ℕ) → byAttempt (sizesOf n) a ≡ Refused r → ⊥
+    go zero p = let z : _≡_ {A = ℕ} 0 1 = cc in omega arith
+    go (suc a) p = let z : _≡_ {A = ℕ} 0 1 = cc in omega arith
 
-sizes-of : (n : ℕ) (b : Built) → OfPlan n b → (f : Sizes) → b ≡ Fuse f → n < 2 ^ 64
+-- and a filter has the sizes of the plan
+sizes-of : (n : ℕ) (hs : List ℕ) (b : Built) → Way n hs b → (f : Sizes) → b ≡ Fuse f → n < 2 ^ 64
     → Usable (f .segment) (f .count) × (cellsIn (f .segment) (f .count) ≡ cellsFor n)
-sizes-of n b no-filter f e l = let z : _≡_ {A = ℕ} 0 1 = cc in absurd (omega arith)
-sizes-of n b (a-filter s a p) f e l =
-    let q : seeded s (mixOf a) ≡ f = cc in
-    subst (λ (x : Sizes). Usable (x .segment) (x .count) × (cellsIn (x .segment) (x .count) ≡ cellsFor n)) q (plan-usable n s p l, plan-cells n s p)
+unfolding sizesOf
+sizes-of n hs b (none z) f e l = let z : _≡_ {A = ℕ} 0 1 = cc in absurd (omega arith)
+sizes-of n hs b (double t) f e l = let z : _≡_ {A = ℕ} 0 1 = cc in absurd (omega arith)
+sizes-of n hs b (tried some t) f e l = go (attemptOf (sizesOf n) hs) e
+  where
+    p : planOf n ≡ plan.Fuse (sizesOf n)
+    p = sym (plan-some n (sizesOf n .segment) (sizesOf n .count) (λ z. omega arith) refl refl)
+
+    go : (a : ℕ) → byAttempt (sizesOf n) a ≡ Fuse f → Usable (f .segment) (f .count) × (cellsIn (f .segment) (f .count) ≡ cellsFor n)
+    go zero q = let z : _≡_ {A = ℕ} 0 1 = cc in absurd (omega arith)
+    go (suc a) q =
+        let r : seeded (sizesOf n) (mixOf (suc a)) ≡ f = cc in
+        subst (λ (x : Sizes). Usable (x .segment) (x .count) × (cellsIn (x .segment) (x .count) ≡ cellsFor n)) r (plan-usable n (sizesOf n) p l, plan-cells n (sizesOf n) p)
 
 module _ (hs out mid : List ℕ) (b : Built) (M : Made hs out mid b) where
   pub lay-positive : b ≡ Positive → (after : List ℕ) → after ≡ splice mid 0 positiveBytes → Laid hs out after b
@@ -401,17 +359,17 @@ module _ (hs out mid : List ℕ) (b : Built) (M : Made hs out mid b) where
 
   module _ (s : Sizes) (e : b ≡ Fuse s) (l : length hs < 2 ^ 64) where
     pub lay-usable : Usable (s .segment) (s .count)
-    lay-usable = sizes-of (length hs) _ (of-plan (length hs) hs) s (sym (M .answer) ∙ e) l .0
+    lay-usable = sizes-of (length hs) hs _ (way (length hs) hs) s (sym (M .answer) ∙ e) l .0
 
     lay-cells : cellsIn (s .segment) (s .count) ≡ cellsFor (length hs)
-    lay-cells = sizes-of (length hs) _ (of-plan (length hs) hs) s (sym (M .answer) ∙ e) l .1
+    lay-cells = sizes-of (length hs) hs _ (way (length hs) hs) s (sym (M .answer) ∙ e) l .1
 
     pub lay-fuse : 48 + cellsFor (length hs) ≤ length out → (after : List ℕ) → after ≡ splice mid 0 (headerOf s) → Laid hs out after (Fuse s)
     lay-fuse room after p = record {
       answer = sym e ∙ M .answer;
       output =
           p ∙ ap (λ (t : List ℕ). splice t 0 (headerOf s)) (M .output ∙ ap (λ (x : Built). madeBy x hs out) e)
-          ∙ front-splice out (headerOf s) (cellsOf (s .segment) (s .count) (s .seed) hs) (header-length s)
+          ∙ splice-before out (headerOf s) 48 (cellsOf (s .segment) (s .count) (s .seed) hs) (header-length s)
           (omega (arith, cells-length (s .segment) (s .count) (s .seed) hs, lay-cells));
     }
 
@@ -453,7 +411,7 @@ module _ (hashes wide narrow out : List ℕ) where
       let a : r ≡ unlessRefused (buildRefusal (length hashes) (length wide) (length narrow) (length out)) (byPlan (planOf (length hashes)) (sorted hashes)) =
       b ∙ ap (λ (k : ℕ). unlessRefused k (byPlan (planOf (length hashes)) (sorted hashes))) (sym z) in
       let n : (q : ℕ) → r ≡ Refused q → ⊥ =
-      λ q e. not-refused (length hashes) _ (of-plan (length hashes) (sorted hashes)) q (sym b ∙ e) in
+      λ q e. not-refused (length hashes) (sorted hashes) _ (way (length hashes) (sorted hashes)) q (sym b ∙ e) in
       let k = kept r n in
       record {
         answer = a;

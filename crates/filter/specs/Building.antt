@@ -10,7 +10,7 @@ use Rattle.laws.specs.Count.{count}
 use Rattle.words.specs.Field.{splice}
 use Rattle.mixing.specs.Mixing.{mixOf}
 use Rattle.fuse.specs.declared.Sizes.{Sizes}
-use Rattle.fuse.specs.Positions.{cellsIn, Usable}
+use Rattle.fuse.specs.Positions.{cellsIn, Fits}
 use Rattle.fuse.specs.Asking.{containsOf}
 use Rattle.fuse.specs.Layout.{positiveBytes, headerOf}
 use Rattle.sizing.specs.declared.Plan.{Plan}
@@ -120,8 +120,8 @@ lengthBy (Refused r) = 0
 
 -- the output: they stand in front of what stood there; refused, it is as it was
 abbrev pub outBy : Built → (hashes out : List ℕ) → List ℕ
-outBy Positive hashes out = splice out 0 positiveBytes
-outBy (Fuse s) hashes out = splice out 0 (headerOf s ++ cellsOf (s .segment) (s .count) (s .seed) hashes)
+outBy Positive hashes out = splice out 0 (writtenBy Positive hashes)
+outBy (Fuse s) hashes out = splice out 0 (writtenBy (Fuse s) hashes)
 outBy (Refused r) hashes out = out
 
 -- the hashes: sorted, unless refused
@@ -171,8 +171,7 @@ asRead (Refused r) = read.Refused
 
 -- lengths that the attempts work with
 pub record Spaced (s : Sizes) (n wide narrow cells : ℕ) : Type 0 where
-  pub usable : Usable (s .segment) (s .count)
-  pub whole : cells ≡ cellsIn (s .segment) (s .count)
+  pub fits : Fits (s .segment) (s .count) cells
   pub few : n + 1 < 2 ^ 32
   pub wide-room : cells + n ≤ wide
   pub narrow-room : cells + cells + n ≤ narrow

@@ -34,7 +34,7 @@ attempt-requires : tie.Need-attempt-requires Inv-loop μ-loop
 attempt-requires c κs =
     let p = c .before .before .before .before .before .before .before .before .before .before .before .before .pre in
     let v = c .before .before .before .before .before .before .before .loop .inv in
-    (record { usable = p .usable; cells-are = v .3 ∙ p .whole }, p .few, omega (arith, p .wide-room), omega (arith, p .narrow-room), refl)
+    (record { usable = p .fits .usable; whole = v .3 ∙ p .fits .whole }, p .few, omega (arith, p .wide-room), omega (arith, p .narrow-room), refl)
 
 add-result : tie.Need-add-result Inv-loop μ-loop
 add-result c = search needs
