@@ -3,7 +3,7 @@
 use mathlib.Core.Path.{_≡_, refl, sym, ap, _∙_, subst}
 use mathlib.Core.Bool.{true}
 use mathlib.Core.List.{List, _++_}
-use mathlib.Core.Logic.{inl, inr}
+use mathlib.Core.Option.{Option, none, some}
 use Prim.Native.Nat.{ℕ, zero, suc, _+_, _^_, _≤_, _<_}
 use native.Mathlib.Omega.{arith}
 use lib.ListN.{length, take, drop, length-append}
@@ -32,10 +32,10 @@ use Rattle.filter.specs.declared.Built.{Built}
 use Rattle.filter.specs.declared.Built.the-variants.{Positive, Fuse, Refused}
 use Rattle.filter.specs.Reading.{readOf, positive, fuse}
 use Rattle.filter.specs.Asking.{askCellsOf, askOf}
-use Rattle.filter.specs.Building.{buildCauses, buildRefusal, attemptOf, byAttempt, builtOf, unlessRefused, buildOf, writtenBy, lengthBy, outBy, BuildPost, WhyPositive, no-hashes, equal-hashes, no-attempt, FilterOf, asRead}
+use Rattle.filter.specs.Building.{buildCauses, buildRefusal, attemptOf, seeded, byAttempt, builtOf, unlessRefused, buildOf, writtenBy, lengthBy, outBy, BuildPost, WhyPositive, no-hashes, equal-hashes, no-attempt, FilterOf, asRead}
 use Rattle.filter.proofs.AskLaws.{ask-positive, ask-fuse}
 use Rattle.filter.proofs.ExactLaws.{layout-reads}
-use Rattle.filter.proofs.BuildingLaws.{attempt-is, attempt-none, by-some, roomy, Way, none, double, tried, way, not-refused}
+use Rattle.filter.proofs.BuildingLaws.{attempt-none, none-attempt, attempt-some, roomy, Way, empty, double, tried, way, not-refused}
 
 built-way : (hashes : List ℕ) → Way (length hashes) (sorted hashes) (builtOf hashes)
 unfolding builtOf
@@ -44,26 +44,24 @@ built-way hashes = way (length hashes) (sorted hashes)
 -- ---- Positive, exactly for its causes
 
 why : (hashes : List ℕ) (b : Built) → Way (length hashes) (sorted hashes) b → b ≡ Positive → WhyPositive hashes
-why hashes b (none z) e = no-hashes z
+why hashes b (empty z) e = no-hashes z
 why hashes b (double t) e = let d = repeats-doubles hashes .yes (sym (twins-sorted hashes) ∙ t) in equal-hashes (d .0) (d .1)
-why hashes b (tried l t) e =
-    elim (attempt-is (sizesOf (length hashes)) (sorted hashes)) [
-      | inl z ↦ no-attempt (λ i a m. z .1 i a (omega arith))
-      | inr f ↦
-          let q = by-some (sizesOf (length hashes)) (attemptOf (sizesOf (length hashes)) (sorted hashes)) (λ z. omega (arith, f .from)) in
-          let z : _≡_ {A = ℕ} 0 1 = cc in absurd (omega arith)
-    ]
+why hashes b (tried l t) e = go (attemptOf (sizesOf (length hashes)) (sorted hashes)) refl e
+  where
+    go : (o : Option (ℕ × ℕ)) → attemptOf (sizesOf (length hashes)) (sorted hashes) ≡ o → byAttempt (sizesOf (length hashes)) o ≡ Positive → WhyPositive hashes
+    go none q p = no-attempt (none-attempt (sizesOf (length hashes)) (sorted hashes) q)
+    go (some (i, a)) q p = let z : _≡_ {A = ℕ} 0 1 = cc in absurd (omega arith)
 
 pub positive-why : (hashes : List ℕ) → builtOf hashes ≡ Positive → WhyPositive hashes
 positive-why hashes e = why hashes (builtOf hashes) (built-way hashes) e
 
 back : (hashes : List ℕ) (b : Built) → Way (length hashes) (sorted hashes) b → WhyPositive hashes → b ≡ Positive
-back hashes b (none z) w = refl
+back hashes b (empty z) w = refl
 back hashes b (double t) w = refl
 back hashes b (tried l t) (no-hashes z) = absurd (omega arith)
 back hashes b (tried l t) (equal-hashes v k) = absurd (omega (arith, repeats-doubles hashes .no (sym (twins-sorted hashes) ∙ t) v))
 back hashes b (tried l t) (no-attempt f) =
-    ap (byAttempt (sizesOf (length hashes))) (attempt-none (sizesOf (length hashes)) (sorted hashes) (λ j a m. f j a (omega arith)))
+    ap (byAttempt (sizesOf (length hashes))) (attempt-none (sizesOf (length hashes)) (sorted hashes) f)
 
 pub why-positive : (hashes : List ℕ) → WhyPositive hashes → builtOf hashes ≡ Positive
 why-positive hashes w = back hashes (builtOf hashes) (built-way hashes) w
@@ -71,24 +69,23 @@ why-positive hashes w = back hashes (builtOf hashes) (built-way hashes) w
 -- ---- a filter, and whose it is
 
 whose : (hashes : List ℕ) (b : Built) → Way (length hashes) (sorted hashes) b → (s : Sizes) → b ≡ Fuse s → FilterOf hashes s
-whose hashes b (none z) s e = let z : _≡_ {A = ℕ} 0 1 = cc in absurd (omega arith)
+whose hashes b (empty z) s e = let z : _≡_ {A = ℕ} 0 1 = cc in absurd (omega arith)
 whose hashes b (double t) s e = let z : _≡_ {A = ℕ} 0 1 = cc in absurd (omega arith)
-whose hashes b (tried l t) s e =
-    elim (attempt-is (sizesOf (length hashes)) (sorted hashes)) [
-      | inl z ↦
-          let q : byAttempt (sizesOf (length hashes)) (attemptOf (sizesOf (length hashes)) (sorted hashes)) ≡ Positive = ap (byAttempt (sizesOf (length hashes))) (z .0) in
-          let z : _≡_ {A = ℕ} 0 1 = cc in absurd (omega arith)
-      | inr f ↦
-          let q = by-some (sizesOf (length hashes)) (attemptOf (sizesOf (length hashes)) (sorted hashes)) (λ z. omega (arith, f .from)) in
-          record {
-            attempt = attemptOf (sizesOf (length hashes)) (sorted hashes);
-            some-hash = l;
-            numbered = (f .from, omega (arith, f .below));
-            sizes = cc;
-            peels = f .peels;
-            first = λ i a m. f .before i a (omega arith);
-          }
-    ]
+whose hashes b (tried l t) s e = go (attemptOf (sizesOf (length hashes)) (sorted hashes)) refl e
+  where
+    go : (o : Option (ℕ × ℕ)) → attemptOf (sizesOf (length hashes)) (sorted hashes) ≡ o → byAttempt (sizesOf (length hashes)) o ≡ Fuse s → FilterOf hashes s
+    go none q p = let z : _≡_ {A = ℕ} 0 1 = cc in absurd (omega arith)
+    go (some (i, a)) q p =
+        let F = attempt-some (sizesOf (length hashes)) (sorted hashes) i a q in
+        let r : seeded (sizesOf (length hashes)) a ≡ s = cc in
+        record {
+          attempt = i + 1;
+          some-hash = l;
+          numbered = (omega arith, omega (arith, F .below));
+          sizes = sym (ap (seeded (sizesOf (length hashes))) (F .seed-is) ∙ r);
+          peels = F .peels;
+          first = F .before;
+        }
 
 pub built-filter : (hashes : List ℕ) (s : Sizes) → builtOf hashes ≡ Fuse s → FilterOf hashes s
 built-filter hashes s e = whose hashes (builtOf hashes) (built-way hashes) s e
