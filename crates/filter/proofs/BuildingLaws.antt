@@ -34,7 +34,7 @@ use Rattle.peel.specs.Table.{Tried}
 use Rattle.peel.proofs.AttemptLaws.{check-never-fails, cells-length}
 use Rattle.filter.specs.declared.Built.{Built}
 use Rattle.filter.specs.declared.Built.the-variants.{Positive, Fuse, Refused}
-use Rattle.filter.specs.Building.{cellsFor, buildCauses, buildRefusal, Roomy, peelsBy, seedBy, attemptOf, numberOf, seeded, byAttempt, byPlan, builtOf, unlessRefused, buildOf, cellsBy, outBy, hashesBy, spaceBy, BuildPost, Spaced, Searched, Constructed, Missing, madeBy, Made, Laid}
+use Rattle.filter.specs.Building.{cellsFor, buildCauses, buildRefusal, Roomy, peelsBy, seedBy, attemptOf, attemptNumber, seeded, byAttempt, byPlan, builtOf, unlessRefused, buildOf, cellsBy, outBy, hashesBy, spaceBy, BuildPost, Spaced, Searched, Constructed, Missing, madeBy, Made, Laid}
 
 -- ---- the plan
 
@@ -188,7 +188,7 @@ module _ (s : Sizes) (hs before after : List ℕ) (seed i : ℕ) (r : Bool) (T :
 
   pub tried-hit : Searching s hs i → i < 100 → r ≡ true → (cells : List ℕ) → Searched s hs cells after (i + 1)
   tried-hit S l t cells = record {
-    first = ap numberOf (sym (searching-hit s hs i S l (sym tried-peels ∙ t)));
+    first = ap attemptNumber (sym (searching-hit s hs i S l (sym tried-peels ∙ t)));
     cells =
         T .cells ∙ ap (λ (b : Bool). cond b (cellsOf (s .segment) (s .count) seed hs) before) (sym (T .answer) ∙ t)
         ∙ ap (λ (x : ℕ). cellsOf (s .segment) (s .count) x hs) e
@@ -207,13 +207,13 @@ module _ (s : Sizes) (hs before after : List ℕ) (seed i : ℕ) (r : Bool) (T :
 pub tried-none : (s : Sizes) (hs before after : List ℕ) (i : ℕ) → Searching s hs i → 100 ≤ i → after ≡ before → Searched s hs before after 0
 tried-none s hs before after i S l e =
     let n = searching-end s hs i S l in
-    record { first = ap numberOf (sym n); cells = e ∙ ap (λ (o : Option (ℕ × ℕ)). cellsBy (byAttempt s o) hs before) (sym n) }
+    record { first = ap attemptNumber (sym n); cells = e ∙ ap (λ (o : Option (ℕ × ℕ)). cellsBy (byAttempt s o) hs before) (sym n) }
 
 module _ (s : Sizes) (hs before after : List ℕ) (i : ℕ) (S : Searched s hs before after i) where
   none-found : i ≡ 0 → attemptOf s hs ≡ none
   none-found z = go (attemptOf s hs) (S .first)
     where
-      go : (o : Option (ℕ × ℕ)) → i ≡ numberOf o → o ≡ none
+      go : (o : Option (ℕ × ℕ)) → i ≡ attemptNumber o → o ≡ none
       go none e = refl
       go (some (j, a)) e = absurd (omega arith)
 
@@ -228,10 +228,10 @@ module _ (s : Sizes) (hs before after : List ℕ) (i : ℕ) (S : Searched s hs b
     found = go (attemptOf s hs) refl
       where
         go : (o : Option (ℕ × ℕ)) → attemptOf s hs ≡ o → (j : ℕ) × (attemptOf s hs ≡ some (j, seed)) × (peelsBy s hs i ≡ true)
-        go none q = absurd (not-zero (S .first ∙ ap numberOf q))
+        go none q = absurd (not-zero (S .first ∙ ap attemptNumber q))
         go (some (j, a)) q =
             let F = attempt-some s hs j a q in
-            let k : i ≡ j + 1 = S .first ∙ ap numberOf q in
+            let k : i ≡ j + 1 = S .first ∙ ap attemptNumber q in
             (j, q ∙ ap (λ (x : ℕ). some (j, x)) (sym (F .seed-is) ∙ ap mixOf (sym k) ∙ sym e), ap (peelsBy s hs) k ∙ F .peels)
 
     cells-are : after ≡ cellsOf (s .segment) (s .count) seed hs

@@ -63,14 +63,14 @@ peelsBy s hashes i = succeeds (s .segment) (s .count) (mixOf i) hashes
 abbrev pub seedBy : Sizes → List ℕ → ℕ → Option ℕ
 seedBy s hashes i = cond (peelsBy s hashes (i + 1)) (some (mixOf (i + 1))) none
 
--- the first of the 100 attempts that peels every hash, counted from 0, and its seed
+-- the first of the attempts 1 to 100 that peels every hash: one less than its number, and its seed
 unfoldable pub attemptOf : Sizes → List ℕ → Option (ℕ × ℕ)
 attemptOf s hashes = least (seedBy s hashes) 100 0
 
 -- its number, 0 for none
-abbrev pub numberOf : Option (ℕ × ℕ) → ℕ
-numberOf none = 0
-numberOf (some (i, seed)) = i + 1
+abbrev pub attemptNumber : Option (ℕ × ℕ) → ℕ
+attemptNumber none = 0
+attemptNumber (some (i, seed)) = i + 1
 
 -- the sizes with a seed
 abbrev pub seeded : Sizes → (seed : ℕ) → Sizes
@@ -184,7 +184,7 @@ pub record Spaced (s : Sizes) (n wide narrow cells : ℕ) : Type 0 where
 
 -- how the attempts ended, and the cells after them
 pub record Searched (s : Sizes) (hashes before after : List ℕ) (attempt : ℕ) : Type 0 where
-  pub first : attempt ≡ numberOf (attemptOf s hashes)
+  pub first : attempt ≡ attemptNumber (attemptOf s hashes)
   pub cells : after ≡ cellsBy (byAttempt s (attemptOf s hashes)) hashes before
 
 -- what was built over the cells

@@ -92,20 +92,20 @@ pub fn fits(s: Sizes, cells: usize) -> bool
     if keys < 1 {
         return false;
     }
-    if Sizes::LARGEST_KEYS < keys {
+    if Sizes::MAX_KEYS < keys {
         return false;
     }
     if u32::count_ones(segment) != 1 {
         return false;
     }
-    if Sizes::LARGEST_SEGMENT < segment {
+    if Sizes::MAX_SEGMENT < segment {
         return false;
     }
     if count < 1 {
         return false;
     }
     let whole = Sizes::cells(s);
-    if Sizes::LARGEST_CELLS < whole {
+    if Sizes::MAX_CELLS < whole {
         return false;
     }
     cells == whole

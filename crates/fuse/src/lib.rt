@@ -19,11 +19,11 @@ impl Sizes {
     // The bytes in front of the cells.
     pub const HEADER: usize = 48;
 
-    pub const LARGEST_SEGMENT: u32 = 262_144;
+    pub const MAX_SEGMENT: u32 = 262_144;
 
-    pub const LARGEST_KEYS: u64 = 0xffff_ffff;
+    pub const MAX_KEYS: u64 = 0xffff_ffff;
 
-    pub const LARGEST_CELLS: usize = 0xffff_ffff;
+    pub const MAX_CELLS: usize = 0xffff_ffff;
 
     // The number of cells: there are 3 segments more than the count.
     pub fn cells(s: Sizes) -> usize

@@ -15,7 +15,7 @@ use words::part;
 // What a hash adds to the degrees of its cells, which wrap: 1 where it joins them, and 2^32 − 1, which is one less, where it leaves them.
 const JOINS: u32 = 1;
 
-const LEAVES: u32 = 0xffff_ffff;
+const LEAVES: u32 = u32::MAX;
 
 // Hash h joins or leaves the cells: their degrees change, and their xors.
 fn change(narrow: &mut [u32], wide: &mut [u64], cells: &[usize], h: u64, by: u32)
