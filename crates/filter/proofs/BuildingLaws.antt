@@ -1,21 +1,21 @@
 -- Laws of building: the checks, the plan, the attempts, the closing check and the bytes, as the code goes through them. Assumes nothing.
 use mathlib.Core.Path.{_≡_, refl, sym, ap, _∙_, subst}
 use mathlib.Core.Bool.{Bool, true, false, cond}
-use mathlib.Core.Logic.{_⊎_, inl, inr}
-use mathlib.Core.List.{List, [], _∷_, _++_, append-assoc}
+use mathlib.Core.Logic.{inl, inr}
+use mathlib.Core.List.{List, []}
+use mathlib.Core.Option.{Option, none, some, Option·some-injective, Option·some-ne-none, Option·none-ne-some}
 use Prim.Native.Nat.{ℕ, zero, suc, _+_, _-_, _*_, _^_, _≤_, _<_}
 use native.Mathlib.Omega.{arith}
-use lib.Dec.{ltb, eqb}
-use lib.ListN.{length, getD, take, drop, replicate, length-append}
-use lib.Seq.{drop-drop}
-use borrow.Author.Tests.{lt-ltb, le-ltb, ltb-false, eqb-true, eqb-false}
+use lib.Dec.{ltb}
+use lib.ListN.{length, take, drop, replicate}
+use borrow.Author.Tests.{lt-ltb, le-ltb, ltb-false}
 use borrow.Rule.Slice.PartMut.{putMid, put-same, mid-len}
 use Rattle.laws.specs.Refusals.{None, none-here, none-more, Numbered, numbered-none, numbered-more, none-only}
 use Rattle.laws.specs.Count.{count}
+use Rattle.laws.specs.Steps.{least-at, least-of-none, least-found, least-none, least-before}
 use Rattle.laws.specs.Cases.{eq-or-ne}
-use Rattle.laws.proofs.CountLaws.{by-test, count-cons, count-here}
 use Rattle.words.specs.Field.{splice}
-use Rattle.words.proofs.Laws.{drop-splice-in}
+use Rattle.words.proofs.PartLaws.{splice-before, splice-back}
 use Rattle.mixing.specs.Mixing.{mixOf}
 use Rattle.fuse.specs.declared.Sizes.{Sizes}
 use Rattle.fuse.specs.Positions.{cellsIn, Usable}
@@ -25,7 +25,7 @@ use Rattle.fuse.proofs.HeaderLaws.{header-length}
 use Rattle.sizing.specs.declared.Plan.{Plan}
 use Rattle.sizing.specs.declared.Plan.the-variants as plan
 use Rattle.sizing.specs.Sizing.{sizesOf, planOf}
-use Rattle.sizing.proofs.SizedLaws.{usable}
+use Rattle.sizing.proofs.SizedLaws.{plan-zero, plan-least, plan-sizes, plan-usable, plan-some}
 use Rattle.sort.specs.Sort.{sorted}
 use Rattle.sort.specs.Twins.{twins}
 use Rattle.sort.proofs.SortLaws.{length-sorted}
@@ -34,47 +34,19 @@ use Rattle.peel.specs.Table.{Tried}
 use Rattle.peel.proofs.AttemptLaws.{check-never-fails, cells-length}
 use Rattle.filter.specs.declared.Built.{Built}
 use Rattle.filter.specs.declared.Built.the-variants.{Positive, Fuse, Refused}
-use Rattle.filter.specs.Building.{cellsFor, buildCauses, buildRefusal, Roomy, peelsBy, firstFrom, attemptOf, seeded, byAttempt, byPlan, builtOf, unlessRefused, buildOf, cellsBy, outBy, hashesBy, spaceBy, BuildPost, Spaced, Searched, Constructed, Missing, madeBy, Made, Laid}
+use Rattle.filter.specs.Building.{cellsFor, buildCauses, buildRefusal, Roomy, peelsBy, seedBy, attemptOf, attemptNumber, seeded, byAttempt, byPlan, builtOf, unlessRefused, buildOf, cellsBy, outBy, hashesBy, spaceBy, BuildPost, Spaced, Searched, Constructed, Missing, madeBy, Made, Laid}
 
 -- ---- the plan
-
-split-plan : (t : Bool) (x s : Sizes) → cond t plan.Positive (plan.Fuse x) ≡ plan.Fuse s → (t ≡ false) × (x ≡ s)
-split-plan true x s e = (cc, cc)
-split-plan false x s e = (refl, cc)
-
-split-none : (t : Bool) (x : Sizes) → cond t plan.Positive (plan.Fuse x) ≡ plan.Positive → t ≡ true
-split-none true x e = refl
-split-none false x e = cc
-
--- only for no hashes is the plan Positive
-pub plan-zero : (n : ℕ) → planOf n ≡ plan.Positive → n ≡ 0
-unfolding planOf
-plan-zero n e = eqb-true n 0 (split-none (eqb n 0) (sizesOf n) e)
 
 pub cells-none : (n : ℕ) → planOf n ≡ plan.Positive → 0 ≡ cellsFor n
 unfolding cellsFor
 cells-none n e = rw e
 
-module _ (n : ℕ) (s : Sizes) (e : planOf n ≡ plan.Fuse s) where
-  plan-split : (eqb n 0 ≡ false) × (sizesOf n ≡ s)
-  unfolding planOf
-  plan-split = split-plan (eqb n 0) (sizesOf n) s e
+pub plan-cells : (n : ℕ) (s : Sizes) → planOf n ≡ plan.Fuse s → cellsIn (s .segment) (s .count) ≡ cellsFor n
+unfolding cellsFor
+plan-cells n s e = rw e
 
-  pub plan-some : 1 ≤ n
-  plan-some = let d = eqb-false n 0 (plan-split .0) in omega arith
-
-  pub plan-sizes : sizesOf n ≡ s
-  plan-sizes = plan-split .1
-
-  pub plan-cells : cellsIn (s .segment) (s .count) ≡ cellsFor n
-  unfolding cellsFor
-  plan-cells = rw e
-
-  pub plan-usable : n < 2 ^ 64 → Usable (s .segment) (s .count)
-  unfolding sizesOf
-  plan-usable l = subst (λ (x : Sizes). Usable (x .segment) (x .count)) plan-sizes (usable n plan-some l)
-
--- 65,536 hashes ask for no more cells than a word holds
+-- the cells for n hashes are counted in 32 bits
 pub cells-few : (n : ℕ) → n < 2 ^ 64 → cellsFor n < 2 ^ 32
 cells-few n l = go (planOf n) refl
   where
@@ -140,94 +112,75 @@ module _ (n wide narrow out : ℕ) where
 
 -- ---- the attempts
 
+seed-split : (b : Bool) (x a : ℕ) → cond b (some x) none ≡ some a → (b ≡ true) × (x ≡ a)
+seed-split true x a e = (refl, Option·some-injective x a e)
+seed-split false x a e = absurd (Option·none-ne-some a e)
+
+seed-fails : (b : Bool) (x : ℕ) → cond b (some x) none ≡ none → b ≡ false
+seed-fails true x e = absurd (Option·some-ne-none x e)
+seed-fails false x e = refl
+
 module _ (s : Sizes) (hs : List ℕ) where
-  first-yes : (k i : ℕ) → peelsBy s hs i ≡ true → firstFrom s hs (suc k) i ≡ i
-  unfolding firstFrom
-  first-yes k i t = ap (λ (b : Bool). cond b i (firstFrom s hs k (suc i))) t
+  seed-yes : (i : ℕ) → peelsBy s hs (i + 1) ≡ true → seedBy s hs i ≡ some (mixOf (i + 1))
+  seed-yes i t = ap (λ (b : Bool). cond b (some (mixOf (i + 1))) none) t
 
-  first-no : (k i : ℕ) → peelsBy s hs i ≡ false → firstFrom s hs (suc k) i ≡ firstFrom s hs k (suc i)
-  unfolding firstFrom
-  first-no k i t = ap (λ (b : Bool). cond b i (firstFrom s hs k (suc i))) t
+  seed-no : (i : ℕ) → peelsBy s hs (i + 1) ≡ false → seedBy s hs i ≡ none
+  seed-no i t = ap (λ (b : Bool). cond b (some (mixOf (i + 1))) none) t
 
-  first-none : (i : ℕ) → firstFrom s hs 0 i ≡ 0
-  unfolding firstFrom
-  first-none i = refl
-
-  -- the attempts left after i give the first of all
+  -- the first i attempts failed
   abbrev pub Searching : ℕ → Type 0
-  Searching i = (i ≤ 100) × (firstFrom s hs (100 - i) (i + 1) ≡ attemptOf s hs)
+  Searching i = (i ≤ 100) × ((q : ℕ) → q < i → seedBy s hs q ≡ none)
 
   pub searching-start : Searching 0
-  unfolding attemptOf
-  searching-start = (omega arith, refl)
+  searching-start = (omega arith, λ q l. absurd (omega arith))
 
   module _ (i : ℕ) (S : Searching i) where
-    one-less : i < 100 → 100 - i ≡ suc (100 - (i + 1))
-    one-less l = omega arith
-
-    pub searching-hit : i < 100 → peelsBy s hs (i + 1) ≡ true → i + 1 ≡ attemptOf s hs
-    searching-hit l t = sym (first-yes (100 - (i + 1)) (i + 1) t) ∙ ap (λ (k : ℕ). firstFrom s hs k (i + 1)) (sym (one-less l)) ∙ S .1
+    pub searching-hit : i < 100 → peelsBy s hs (i + 1) ≡ true → attemptOf s hs ≡ some (i, mixOf (i + 1))
+    unfolding attemptOf
+    searching-hit l t = least-at (seedBy s hs) 100 i (mixOf (i + 1)) l (S .1) (seed-yes i t)
 
     pub searching-miss : i < 100 → peelsBy s hs (i + 1) ≡ false → Searching (i + 1)
-    searching-miss l t = (
-      omega arith,
-      ap (firstFrom s hs (100 - (i + 1))) {x = i + 1 + 1} {y = suc (i + 1)} (omega arith) ∙ sym (first-no (100 - (i + 1)) (i + 1) t)
-          ∙ ap (λ (k : ℕ). firstFrom s hs k (i + 1)) (sym (one-less l)) ∙ S .1,
-    )
+    searching-miss l t =
+        (omega arith, λ q m. elim (eq-or-ne q i) [ inl e ↦ ap (seedBy s hs) e ∙ seed-no i t | inr d ↦ S .1 q (omega arith) ])
 
-    pub searching-end : 100 ≤ i → 0 ≡ attemptOf s hs
-    searching-end l = sym (ap (λ (k : ℕ). firstFrom s hs k (i + 1)) {x = 100 - i} {y = 0} (omega arith) ∙ first-none (i + 1)) ∙ S .1
+    pub searching-end : 100 ≤ i → attemptOf s hs ≡ none
+    unfolding attemptOf
+    searching-end l = least-of-none (seedBy s hs) 100 (λ q m. S .1 q (omega arith))
 
-  -- none of the k attempts from i on peels every hash
-  abbrev pub NonePeels : (k i : ℕ) → Type 0
-  NonePeels k i = (j : ℕ) → i ≤ j → j < i + k → peelsBy s hs j ≡ false
+  -- none of the attempts 1 to 100 peels every hash
+  abbrev pub NonePeels : Type 0
+  NonePeels = (i : ℕ) → 1 ≤ i → i ≤ 100 → peelsBy s hs i ≡ false
 
-  none-first : (k i : ℕ) → NonePeels k i → firstFrom s hs k i ≡ 0
-  none-first zero i n = first-none i
-  none-first (suc k) i n = first-no k i (n i (omega arith) (omega arith)) ∙ none-first k (suc i) (λ j l m. n j (omega arith) (omega arith))
-
-  -- what the first attempt is, if it is one of those from i on
-  pub record FirstPeel (k i a : ℕ) : Type 0 where
-    pub from : i ≤ a
-    pub below : a < i + k
-    pub peels : peelsBy s hs a ≡ true
-    pub before : NonePeels (a - i) i
-
-  later-first : (k i a : ℕ) → peelsBy s hs i ≡ false → FirstPeel k (suc i) a → FirstPeel (suc k) i a
-  later-first k i a t F = record {
-    from = omega (arith, F .from);
-    below = omega (arith, F .below);
-    peels = F .peels;
-    before = λ j l m.
-        elim (eq-or-ne i j) [ inl e ↦ subst (λ (x : ℕ). peelsBy s hs x ≡ false) e t | inr d ↦ F .before j (omega arith) (omega (arith, F .from)) ];
-  }
-
-  first-is : (k i : ℕ) → 1 ≤ i → ((firstFrom s hs k i ≡ 0) × NonePeels k i) ⊎ FirstPeel k i (firstFrom s hs k i)
-  first-is zero i l = inl (first-none i, λ j m n. absurd (omega arith))
-  first-is (suc k) i l =
-      by-test (peelsBy s hs i)
-      (λ t. inr (subst (FirstPeel (suc k) i) (sym (first-yes k i t)) (record { from = omega arith; below = omega arith; peels = t; before = λ j m n. absurd (omega arith) })))
-      (λ t. elim (first-is k (suc i) (omega arith)) [
-        | inl z ↦ inl (first-no k i t ∙ z .0, λ j m n. elim (eq-or-ne i j) [ inl e ↦ subst (λ (x : ℕ). peelsBy s hs x ≡ false) e t | inr d ↦ z .1 j (omega arith) (omega arith) ])
-        | inr f ↦ inr (subst (FirstPeel (suc k) i) (sym (first-no k i t)) (later-first k i _ t f))
-      ])
-
-  -- the attempt found is 0 exactly where none of the 100 peels every hash, and else the first that does
-  pub attempt-is : ((attemptOf s hs ≡ 0) × NonePeels 100 1) ⊎ FirstPeel 100 1 (attemptOf s hs)
+  pub attempt-none : NonePeels → attemptOf s hs ≡ none
   unfolding attemptOf
-  attempt-is = first-is 100 1 (omega arith)
+  attempt-none n = least-of-none (seedBy s hs) 100 (λ q l. seed-no q (n (q + 1) (omega arith) (omega arith)))
 
-  pub attempt-none : NonePeels 100 1 → attemptOf s hs ≡ 0
+  pub none-attempt : attemptOf s hs ≡ none → NonePeels
   unfolding attemptOf
-  attempt-none n = none-first 100 1 n
+  none-attempt e i l m =
+      let k : i - 1 + 1 ≡ i = omega arith in
+      ap (peelsBy s hs) (sym k) ∙ seed-fails _ _ (least-none (seedBy s hs) 100 0 e (i - 1) (omega arith) (omega arith))
 
-  pub attempt-peels : (a : ℕ) → a ≡ attemptOf s hs → (a ≡ 0 → ⊥) → peelsBy s hs a ≡ true
-  attempt-peels a e n = elim attempt-is [ inl z ↦ absurd (n (e ∙ z .0)) | inr f ↦ ap (peelsBy s hs) e ∙ f .peels ]
+  -- the attempt found is the first that peels every hash
+  pub record FirstPeel (i seed : ℕ) : Type 0 where
+    pub below : i < 100
+    pub peels : peelsBy s hs (i + 1) ≡ true
+    pub seed-is : mixOf (i + 1) ≡ seed
+    pub before : (j : ℕ) → 1 ≤ j → j < i + 1 → peelsBy s hs j ≡ false
 
--- attempts have the seeds of their numbers
-pub by-some : (s : Sizes) (a : ℕ) → (a ≡ 0 → ⊥) → byAttempt s a ≡ Fuse (seeded s (mixOf a))
-by-some s zero n = absurd (n refl)
-by-some s (suc a) n = refl
+  pub attempt-some : (i seed : ℕ) → attemptOf s hs ≡ some (i, seed) → FirstPeel i seed
+  unfolding attemptOf
+  attempt-some i seed e =
+      let f = least-found (seedBy s hs) 100 0 i seed e in
+      let p = seed-split _ _ _ (f .0) in
+      record {
+        below = omega (arith, f .1);
+        peels = p .0;
+        seed-is = p .1;
+        before = λ j l m.
+            let k : j - 1 + 1 ≡ j = omega arith in
+            ap (peelsBy s hs) (sym k) ∙ seed-fails _ _ (least-before (seedBy s hs) 100 0 i seed e (j - 1) (omega arith) (omega arith));
+      }
 
 module _ (s : Sizes) (hs before after : List ℕ) (seed i : ℕ) (r : Bool) (T : Tried (s .segment) (s .count) seed hs before after r) (e : seed ≡ mixOf (i + 1)) where
   tried-peels : r ≡ peelsBy s hs (i + 1)
@@ -235,11 +188,11 @@ module _ (s : Sizes) (hs before after : List ℕ) (seed i : ℕ) (r : Bool) (T :
 
   pub tried-hit : Searching s hs i → i < 100 → r ≡ true → (cells : List ℕ) → Searched s hs cells after (i + 1)
   tried-hit S l t cells = record {
-    first = searching-hit s hs i S l (sym tried-peels ∙ t);
+    first = ap attemptNumber (sym (searching-hit s hs i S l (sym tried-peels ∙ t)));
     cells =
         T .cells ∙ ap (λ (b : Bool). cond b (cellsOf (s .segment) (s .count) seed hs) before) (sym (T .answer) ∙ t)
         ∙ ap (λ (x : ℕ). cellsOf (s .segment) (s .count) x hs) e
-        ∙ ap (λ (b : Built). cellsBy b hs cells) (sym (by-some s (i + 1) (λ z. omega arith)));
+        ∙ ap (λ (o : Option (ℕ × ℕ)). cellsBy (byAttempt s o) hs cells) (sym (searching-hit s hs i S l (sym tried-peels ∙ t)));
   }
 
   pub tried-miss : Searching s hs i → i < 100 → r ≡ false → Searching s hs (i + 1) × (after ≡ before)
@@ -248,39 +201,50 @@ module _ (s : Sizes) (hs before after : List ℕ) (seed i : ℕ) (r : Bool) (T :
     T .cells ∙ ap (λ (b : Bool). cond b (cellsOf (s .segment) (s .count) seed hs) before) (sym (T .answer) ∙ f),
   )
 
--- ---- the closing check
-
--- what stands in a list is counted
-pub counted-at : (xs : List ℕ) (i : ℕ) → i < length xs → 1 ≤ count (getD xs i 0) xs
-counted-at [] i l = absurd (omega arith)
-counted-at (x ∷ xs) zero l = omega (arith, count-here x xs)
-counted-at (x ∷ xs) (suc i) l = omega (arith, counted-at xs i (omega arith), count-cons (getD xs i 0) x xs)
-
 -- ---- built over the cells
 
+-- all attempts failed
+pub tried-none : (s : Sizes) (hs before after : List ℕ) (i : ℕ) → Searching s hs i → 100 ≤ i → after ≡ before → Searched s hs before after 0
+tried-none s hs before after i S l e =
+    let n = searching-end s hs i S l in
+    record { first = ap attemptNumber (sym n); cells = e ∙ ap (λ (o : Option (ℕ × ℕ)). cellsBy (byAttempt s o) hs before) (sym n) }
+
 module _ (s : Sizes) (hs before after : List ℕ) (i : ℕ) (S : Searched s hs before after i) where
+  none-found : i ≡ 0 → attemptOf s hs ≡ none
+  none-found z = go (attemptOf s hs) (S .first)
+    where
+      go : (o : Option (ℕ × ℕ)) → i ≡ attemptNumber o → o ≡ none
+      go none e = refl
+      go (some (j, a)) e = absurd (omega arith)
+
   pub construct-none : i ≡ 0 → Constructed s hs before after Positive
   construct-none z = record {
-    answer = ap (byAttempt s) (sym z ∙ S .first);
-    cells = S .cells ∙ ap (λ (a : ℕ). cellsBy (byAttempt s a) hs before) z;
+    answer = ap (byAttempt s) (sym (none-found z));
+    cells = S .cells ∙ ap (λ (o : Option (ℕ × ℕ)). cellsBy (byAttempt s o) hs before) (none-found z);
   }
 
-  module _ (some : i ≡ 0 → ⊥) (seed : ℕ) (e : seed ≡ mixOf i) where
+  module _ (not-zero : i ≡ 0 → ⊥) (seed : ℕ) (e : seed ≡ mixOf i) where
+    found : (j : ℕ) × (attemptOf s hs ≡ some (j, seed)) × (peelsBy s hs i ≡ true)
+    found = go (attemptOf s hs) refl
+      where
+        go : (o : Option (ℕ × ℕ)) → attemptOf s hs ≡ o → (j : ℕ) × (attemptOf s hs ≡ some (j, seed)) × (peelsBy s hs i ≡ true)
+        go none q = absurd (not-zero (S .first ∙ ap attemptNumber q))
+        go (some (j, a)) q =
+            let F = attempt-some s hs j a q in
+            let k : i ≡ j + 1 = S .first ∙ ap attemptNumber q in
+            (j, q ∙ ap (λ (x : ℕ). some (j, x)) (sym (F .seed-is) ∙ ap mixOf (sym k) ∙ sym e), ap (peelsBy s hs) k ∙ F .peels)
+
     cells-are : after ≡ cellsOf (s .segment) (s .count) seed hs
-    cells-are =
-        S .cells ∙ ap (λ (b : Built). cellsBy b hs before) (by-some s i some) ∙ ap (λ (x : ℕ). cellsOf (s .segment) (s .count) x hs) (sym e)
+    cells-are = S .cells ∙ ap (λ (o : Option (ℕ × ℕ)). cellsBy (byAttempt s o) hs before) (found .1)
 
     pub construct-some : Constructed s hs before after (Fuse (seeded s seed))
-    construct-some = record {
-      answer = ap (λ (x : ℕ). Fuse (seeded s x)) e ∙ sym (by-some s i some) ∙ ap (byAttempt s) (S .first);
-      cells = cells-are;
-    }
+    construct-some = record { answer = ap (byAttempt s) (sym (found .1)); cells = cells-are }
 
     -- the closing check never fails
     pub construct-check : Usable (s .segment) (s .count) → Missing after (seeded s seed) hs → ⊥
     construct-check u m =
         let t : succeeds (s .segment) (s .count) seed hs ≡ true =
-        ap (λ (x : ℕ). succeeds (s .segment) (s .count) x hs) e ∙ attempt-peels s hs i (S .first) some in
+        ap (λ (x : ℕ). succeeds (s .segment) (s .count) x hs) e ∙ found .2 in
         let y : containsOf after (seeded s seed) (m .hash) ≡ true =
         ap (λ (c : List ℕ). containsOf c (seeded s seed) (m .hash)) cells-are ∙ check-never-fails (seeded s seed) u hs t (m .hash) (m .given) in
         let n = m .absent in
@@ -289,17 +253,10 @@ module _ (s : Sizes) (hs before after : List ℕ) (i : ℕ) (S : Searched s hs b
 
 -- ---- the output
 
--- a part put back is a splice
-put-splice : (at k : ℕ) (xs ys : List ℕ) → length ys ≡ k → putMid at k xs ys ≡ splice xs at ys
-unfolding splice
-put-splice at k xs ys e =
-    ap (λ (t : List ℕ). take at xs ++ (ys ++ t)) (drop-drop k at xs ∙ ap (λ (m : ℕ). drop (at + m) xs) (sym e))
-    ∙ sym (append-assoc (take at xs) ys (drop (at + length ys) xs))
-
 pub made-part : (b : Built) (hs out cells : List ℕ) (k : ℕ) → length cells ≡ k → cells ≡ cellsBy b hs (take k (drop 48 out))
     → putMid 48 k out cells ≡ madeBy b hs out
 made-part Positive hs out cells k l e = ap (putMid 48 k out) e ∙ put-same 48 k out
-made-part (Fuse s) hs out cells k l e = put-splice 48 k out cells l ∙ ap (splice out 48) e
+made-part (Fuse s) hs out cells k l e = splice-back 48 k out cells l ∙ ap (splice out 48) e
 made-part (Refused r) hs out cells k l e = ap (putMid 48 k out) e ∙ put-same 48 k out
 
 module _ (hs out : List ℕ) where
@@ -333,56 +290,59 @@ make-spaced n s e wide narrow c out ec R l =
     let m : length (take (48 + c - 48) (drop 48 out)) ≡ 48 + c - 48 = mid-len 48 (48 + c) out (omega (arith, R .out-room)) in
     let k = plan-cells n s e in
     record {
-      usable = plan-usable n s e l;
-      whole = omega arith;
+      fits = record { usable = plan-usable n s e l; whole = omega arith };
       few = omega (arith, R .few);
       wide-room = omega (arith, R .wide-room);
       narrow-room = omega (arith, R .narrow-room);
     }
 
--- ---- a header put in front of cells that stand in their place
+-- ---- what is built, by the way it goes
 
-pub in-front : (xs ys : List ℕ) → splice xs 0 ys ≡ ys ++ drop (length ys) xs
-unfolding splice
-in-front xs ys = ap (λ (k : ℕ). ys ++ drop k xs) {x = 0 + length ys} {y = length ys} (omega arith)
+-- of n hashes: there are none, two are equal, or the attempts decide
+pub data Way (n : ℕ) (hs : List ℕ) : Built → Type 0 where
+  empty : n ≡ 0 → Way n hs Positive
+  double : twins hs ≡ true → Way n hs Positive
+  tried : 1 ≤ n → twins hs ≡ false → Way n hs (byAttempt (sizesOf n) (attemptOf (sizesOf n) hs))
 
-front-splice : (xs p q : List ℕ) → length p ≡ 48 → 48 + length q ≤ length xs → splice (splice xs 48 q) 0 p ≡ splice xs 0 (p ++ q)
-front-splice xs p q l r =
-    in-front (splice xs 48 q) p ∙ ap (λ (k : ℕ). p ++ drop k (splice xs 48 q)) l ∙ ap (λ (t : List ℕ). p ++ t) (drop-splice-in xs 48 q r)
-    ∙ sym (append-assoc p q (drop (48 + length q) xs))
-    ∙ ap (λ (k : ℕ). (p ++ q) ++ drop k xs) {x = 48 + length q} {y = length (p ++ q)} (omega (arith, length-append p q))
-    ∙ sym (in-front xs (p ++ q))
-
--- what is built over a plan: Positive, or the plan's sizes with a seed
-pub data OfPlan (n : ℕ) : Built → Type 0 where
-  no-filter : OfPlan n Positive
-  a-filter : (s : Sizes) (a : ℕ) → planOf n ≡ plan.Fuse s → OfPlan n (Fuse (seeded s (mixOf a)))
-
-of-attempt : (n : ℕ) (s : Sizes) → planOf n ≡ plan.Fuse s → (a : ℕ) → OfPlan n (byAttempt s a)
-of-attempt n s e zero = no-filter
-of-attempt n s e (suc a) = a-filter s (suc a) e
-
-pub of-plan : (n : ℕ) (hs : List ℕ) → OfPlan n (byPlan (planOf n) hs)
+pub way : (n : ℕ) (hs : List ℕ) → Way n hs (byPlan (planOf n) hs)
 unfolding byPlan
-of-plan n hs = go (planOf n) refl
+way n hs = go (planOf n) refl
   where
-    go : (p : Plan) → planOf n ≡ p → OfPlan n (byPlan p hs)
-    go plan.Positive e = no-filter
+    by-twins : (b : Bool) → twins hs ≡ b → 1 ≤ n → Way n hs (cond b Positive (byAttempt (sizesOf n) (attemptOf (sizesOf n) hs)))
+    by-twins true t l = double t
+    by-twins false t l = tried l t
+
+    go : (p : Plan) → planOf n ≡ p → Way n hs (byPlan p hs)
+    go plan.Positive e = empty (plan-zero n e)
     go (plan.Fuse s) e =
-        by-test (twins hs)
-        (λ t. subst (λ (b : Bool). OfPlan n (cond b Positive (byAttempt s (attemptOf s hs)))) (sym t) no-filter)
-        (λ t. subst (λ (b : Bool). OfPlan n (cond b Positive (byAttempt s (attemptOf s hs)))) (sym t) (of-attempt n s e (attemptOf s hs)))
+        subst (λ (x : Sizes). Way n hs (cond (twins hs) Positive (byAttempt x (attemptOf x hs)))) (plan-sizes n s e) (by-twins (twins hs) refl (plan-least n s e))
 
-not-refused : (n : ℕ) (b : Built) → OfPlan n b → (r : ℕ) → b ≡ Refused r → ⊥
-not-refused n b no-filter r e = let z : _≡_ {A = ℕ} 0 1 = cc in omega arith
-not-refused n b (a-filter s a p) r e = let z : _≡_ {A = ℕ} 0 1 = cc in omega arith
+-- it is no refusal
+pub not-refused : (n : ℕ) (hs : List ℕ) (b : Built) → Way n hs b → (r : ℕ) → b ≡ Refused r → ⊥
+not-refused n hs b (empty z) r e = let z : _≡_ {A = ℕ} 0 1 = cc in omega arith
+not-refused n hs b (double t) r e = let z : _≡_ {A = ℕ} 0 1 = cc in omega arith
+not-refused n hs b (tried l t) r e = go (attemptOf (sizesOf n) hs) e
+  where
+    go : (o : Option (ℕ × ℕ)) → byAttempt (sizesOf n) o ≡ Refused r → ⊥
+    go none p = let z : _≡_ {A = ℕ} 0 1 = cc in omega arith
+    go (some (i, a)) p = let z : _≡_ {A = ℕ} 0 1 = cc in omega arith
 
-sizes-of : (n : ℕ) (b : Built) → OfPlan n b → (f : Sizes) → b ≡ Fuse f → n < 2 ^ 64
+-- and a filter has the sizes of the plan
+sizes-of : (n : ℕ) (hs : List ℕ) (b : Built) → Way n hs b → (f : Sizes) → b ≡ Fuse f → n < 2 ^ 64
     → Usable (f .segment) (f .count) × (cellsIn (f .segment) (f .count) ≡ cellsFor n)
-sizes-of n b no-filter f e l = let z : _≡_ {A = ℕ} 0 1 = cc in absurd (omega arith)
-sizes-of n b (a-filter s a p) f e l =
-    let q : seeded s (mixOf a) ≡ f = cc in
-    subst (λ (x : Sizes). Usable (x .segment) (x .count) × (cellsIn (x .segment) (x .count) ≡ cellsFor n)) q (plan-usable n s p l, plan-cells n s p)
+unfolding sizesOf
+sizes-of n hs b (empty z) f e l = let z : _≡_ {A = ℕ} 0 1 = cc in absurd (omega arith)
+sizes-of n hs b (double t) f e l = let z : _≡_ {A = ℕ} 0 1 = cc in absurd (omega arith)
+sizes-of n hs b (tried k t) f e l = go (attemptOf (sizesOf n) hs) e
+  where
+    p : planOf n ≡ plan.Fuse (sizesOf n)
+    p = sym (plan-some n (sizesOf n .segment) (sizesOf n .count) (λ z. omega arith) refl refl)
+
+    go : (o : Option (ℕ × ℕ)) → byAttempt (sizesOf n) o ≡ Fuse f → Usable (f .segment) (f .count) × (cellsIn (f .segment) (f .count) ≡ cellsFor n)
+    go none q = let z : _≡_ {A = ℕ} 0 1 = cc in absurd (omega arith)
+    go (some (i, a)) q =
+        let r : seeded (sizesOf n) a ≡ f = cc in
+        subst (λ (x : Sizes). Usable (x .segment) (x .count) × (cellsIn (x .segment) (x .count) ≡ cellsFor n)) r (plan-usable n (sizesOf n) p l, plan-cells n (sizesOf n) p)
 
 module _ (hs out mid : List ℕ) (b : Built) (M : Made hs out mid b) where
   pub lay-positive : b ≡ Positive → (after : List ℕ) → after ≡ splice mid 0 positiveBytes → Laid hs out after b
@@ -401,17 +361,17 @@ module _ (hs out mid : List ℕ) (b : Built) (M : Made hs out mid b) where
 
   module _ (s : Sizes) (e : b ≡ Fuse s) (l : length hs < 2 ^ 64) where
     pub lay-usable : Usable (s .segment) (s .count)
-    lay-usable = sizes-of (length hs) _ (of-plan (length hs) hs) s (sym (M .answer) ∙ e) l .0
+    lay-usable = sizes-of (length hs) hs _ (way (length hs) hs) s (sym (M .answer) ∙ e) l .0
 
     lay-cells : cellsIn (s .segment) (s .count) ≡ cellsFor (length hs)
-    lay-cells = sizes-of (length hs) _ (of-plan (length hs) hs) s (sym (M .answer) ∙ e) l .1
+    lay-cells = sizes-of (length hs) hs _ (way (length hs) hs) s (sym (M .answer) ∙ e) l .1
 
     pub lay-fuse : 48 + cellsFor (length hs) ≤ length out → (after : List ℕ) → after ≡ splice mid 0 (headerOf s) → Laid hs out after (Fuse s)
     lay-fuse room after p = record {
       answer = sym e ∙ M .answer;
       output =
           p ∙ ap (λ (t : List ℕ). splice t 0 (headerOf s)) (M .output ∙ ap (λ (x : Built). madeBy x hs out) e)
-          ∙ front-splice out (headerOf s) (cellsOf (s .segment) (s .count) (s .seed) hs) (header-length s)
+          ∙ splice-before out (headerOf s) 48 (cellsOf (s .segment) (s .count) (s .seed) hs) (header-length s)
           (omega (arith, cells-length (s .segment) (s .count) (s .seed) hs, lay-cells));
     }
 
@@ -453,7 +413,7 @@ module _ (hashes wide narrow out : List ℕ) where
       let a : r ≡ unlessRefused (buildRefusal (length hashes) (length wide) (length narrow) (length out)) (byPlan (planOf (length hashes)) (sorted hashes)) =
       b ∙ ap (λ (k : ℕ). unlessRefused k (byPlan (planOf (length hashes)) (sorted hashes))) (sym z) in
       let n : (q : ℕ) → r ≡ Refused q → ⊥ =
-      λ q e. not-refused (length hashes) _ (of-plan (length hashes) (sorted hashes)) q (sym b ∙ e) in
+      λ q e. not-refused (length hashes) (sorted hashes) _ (way (length hashes) (sorted hashes)) q (sym b ∙ e) in
       let k = kept r n in
       record {
         answer = a;

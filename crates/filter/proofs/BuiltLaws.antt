@@ -1,28 +1,26 @@
 -- What building promises: Positive exactly for its causes; a filter has the right sizes and keys, is read as what was built, and never calls
 -- one of its hashes absent; the closing check never fails; two results coincide. Assumes nothing.
 use mathlib.Core.Path.{_≡_, refl, sym, ap, _∙_, subst}
-use mathlib.Core.Bool.{Bool, true, false, cond}
+use mathlib.Core.Bool.{true}
 use mathlib.Core.List.{List, _++_}
-use mathlib.Core.Logic.{inl, inr}
+use mathlib.Core.Option.{Option, none, some}
 use Prim.Native.Nat.{ℕ, zero, suc, _+_, _^_, _≤_, _<_}
 use native.Mathlib.Omega.{arith}
 use lib.ListN.{length, take, drop, length-append}
 use lib.Seq.{take-at, drop-at}
 use Rattle.laws.specs.Refusals.{First, first-given, first-only}
 use Rattle.laws.specs.Count.{count}
-use Rattle.mixing.specs.Mixing.{mixOf-lt}
+use Rattle.words.proofs.PartLaws.{splice-front}
+use Rattle.mixing.specs.Mixing.{mixOf, mixOf-lt}
 use Rattle.fuse.specs.declared.Sizes.{Sizes}
 use Rattle.fuse.specs.Positions.{cellsIn, Usable}
 use Rattle.fuse.specs.Asking.{containsOf}
 use Rattle.fuse.specs.Layout.{positiveBytes, headerOf, Accepted}
 use Rattle.fuse.proofs.FitLaws.{accepted-fitting}
 use Rattle.fuse.proofs.HeaderLaws.{header-length, positive-length}
-use Rattle.sizing.specs.declared.Plan.{Plan}
-use Rattle.sizing.specs.declared.Plan.the-variants as plan
-use Rattle.sizing.specs.Sizing.{sizesOf, planOf}
-use Rattle.sizing.proofs.SizedLaws.{usable}
+use Rattle.sizing.specs.Sizing.{sizesOf}
+use Rattle.sizing.proofs.SizedLaws.{sizes-accepted}
 use Rattle.sort.specs.Sort.{sorted}
-use Rattle.sort.specs.Twins.{twins}
 use Rattle.sort.proofs.TwinLaws.{twins-sorted, repeats-doubles}
 use Rattle.sort.proofs.SortLaws.{count-sorted}
 use Rattle.peel.specs.Peel.{succeeds, cellsOf}
@@ -34,103 +32,75 @@ use Rattle.filter.specs.declared.Built.{Built}
 use Rattle.filter.specs.declared.Built.the-variants.{Positive, Fuse, Refused}
 use Rattle.filter.specs.Reading.{readOf, positive, fuse}
 use Rattle.filter.specs.Asking.{askCellsOf, askOf}
-use Rattle.filter.specs.Building.{buildCauses, buildRefusal, attemptOf, byAttempt, byPlan, builtOf, unlessRefused, buildOf, writtenBy, lengthBy, outBy, BuildPost, WhyPositive, no-hashes, equal-hashes, no-attempt, FilterOf, asRead}
+use Rattle.filter.specs.Building.{buildCauses, buildRefusal, attemptOf, seeded, byAttempt, builtOf, unlessRefused, buildOf, writtenBy, lengthBy, outBy, BuildPost, WhyPositive, no-hashes, equal-hashes, no-attempt, FilterOf, asRead}
 use Rattle.filter.proofs.AskLaws.{ask-positive, ask-fuse}
 use Rattle.filter.proofs.ExactLaws.{layout-reads}
-use Rattle.filter.proofs.BuildingLaws.{plan-zero, plan-some, plan-sizes, attempt-is, attempt-none, by-some, roomy, in-front}
+use Rattle.filter.proofs.BuildingLaws.{attempt-none, none-attempt, attempt-some, roomy, Way, empty, double, tried, way, not-refused}
 
--- ---- what is built, by the way it goes
-
--- no hashes, two that are equal, or by the attempts
-data Way (hashes : List ℕ) : Built → Type 0 where
-  none : length hashes ≡ 0 → Way hashes Positive
-  double : twins (sorted hashes) ≡ true → Way hashes Positive
-  tried : 1 ≤ length hashes → twins (sorted hashes) ≡ false → Way hashes (byAttempt (sizesOf (length hashes)) (attemptOf (sizesOf (length hashes)) (sorted hashes)))
-
-by-twins : (hashes : List ℕ) (b : Bool) → twins (sorted hashes) ≡ b → 1 ≤ length hashes
-    → Way hashes (cond b Positive (byAttempt (sizesOf (length hashes)) (attemptOf (sizesOf (length hashes)) (sorted hashes))))
-by-twins hashes true t l = double t
-by-twins hashes false t l = tried l t
-
-by-plan : (hashes : List ℕ) (p : Plan) → planOf (length hashes) ≡ p → Way hashes (byPlan p (sorted hashes))
-unfolding byPlan
-by-plan hashes plan.Positive e = none (plan-zero (length hashes) e)
-by-plan hashes (plan.Fuse s) e =
-    subst (λ (x : Sizes). Way hashes (cond (twins (sorted hashes)) Positive (byAttempt x (attemptOf x (sorted hashes))))) (plan-sizes (length hashes) s e)
-    (by-twins hashes (twins (sorted hashes)) refl (plan-some (length hashes) s e))
-
-way : (hashes : List ℕ) → Way hashes (builtOf hashes)
+built-way : (hashes : List ℕ) → Way (length hashes) (sorted hashes) (builtOf hashes)
 unfolding builtOf
-way hashes = by-plan hashes (planOf (length hashes)) refl
+built-way hashes = way (length hashes) (sorted hashes)
 
 -- ---- Positive, exactly for its causes
 
-why : (hashes : List ℕ) (b : Built) → Way hashes b → b ≡ Positive → WhyPositive hashes
-why hashes b (none z) e = no-hashes z
+why : (hashes : List ℕ) (b : Built) → Way (length hashes) (sorted hashes) b → b ≡ Positive → WhyPositive hashes
+why hashes b (empty z) e = no-hashes z
 why hashes b (double t) e = let d = repeats-doubles hashes .yes (sym (twins-sorted hashes) ∙ t) in equal-hashes (d .0) (d .1)
-why hashes b (tried l t) e =
-    elim (attempt-is (sizesOf (length hashes)) (sorted hashes)) [
-      | inl z ↦ no-attempt (λ i a m. z .1 i a (omega arith))
-      | inr f ↦
-          let q = by-some (sizesOf (length hashes)) (attemptOf (sizesOf (length hashes)) (sorted hashes)) (λ z. omega (arith, f .from)) in
-          let z : _≡_ {A = ℕ} 0 1 = cc in absurd (omega arith)
-    ]
+why hashes b (tried l t) e = go (attemptOf (sizesOf (length hashes)) (sorted hashes)) refl e
+  where
+    go : (o : Option (ℕ × ℕ)) → attemptOf (sizesOf (length hashes)) (sorted hashes) ≡ o → byAttempt (sizesOf (length hashes)) o ≡ Positive → WhyPositive hashes
+    go none q p = no-attempt (none-attempt (sizesOf (length hashes)) (sorted hashes) q)
+    go (some (i, a)) q p = let z : _≡_ {A = ℕ} 0 1 = cc in absurd (omega arith)
 
 pub positive-why : (hashes : List ℕ) → builtOf hashes ≡ Positive → WhyPositive hashes
-positive-why hashes e = why hashes (builtOf hashes) (way hashes) e
+positive-why hashes e = why hashes (builtOf hashes) (built-way hashes) e
 
-back : (hashes : List ℕ) (b : Built) → Way hashes b → WhyPositive hashes → b ≡ Positive
-back hashes b (none z) w = refl
+back : (hashes : List ℕ) (b : Built) → Way (length hashes) (sorted hashes) b → WhyPositive hashes → b ≡ Positive
+back hashes b (empty z) w = refl
 back hashes b (double t) w = refl
 back hashes b (tried l t) (no-hashes z) = absurd (omega arith)
 back hashes b (tried l t) (equal-hashes v k) = absurd (omega (arith, repeats-doubles hashes .no (sym (twins-sorted hashes) ∙ t) v))
 back hashes b (tried l t) (no-attempt f) =
-    ap (byAttempt (sizesOf (length hashes))) (attempt-none (sizesOf (length hashes)) (sorted hashes) (λ j a m. f j a (omega arith)))
+    ap (byAttempt (sizesOf (length hashes))) (attempt-none (sizesOf (length hashes)) (sorted hashes) f)
 
 pub why-positive : (hashes : List ℕ) → WhyPositive hashes → builtOf hashes ≡ Positive
-why-positive hashes w = back hashes (builtOf hashes) (way hashes) w
+why-positive hashes w = back hashes (builtOf hashes) (built-way hashes) w
 
 -- ---- a filter, and whose it is
 
-whose : (hashes : List ℕ) (b : Built) → Way hashes b → (s : Sizes) → b ≡ Fuse s → FilterOf hashes s
-whose hashes b (none z) s e = let z : _≡_ {A = ℕ} 0 1 = cc in absurd (omega arith)
+whose : (hashes : List ℕ) (b : Built) → Way (length hashes) (sorted hashes) b → (s : Sizes) → b ≡ Fuse s → FilterOf hashes s
+whose hashes b (empty z) s e = let z : _≡_ {A = ℕ} 0 1 = cc in absurd (omega arith)
 whose hashes b (double t) s e = let z : _≡_ {A = ℕ} 0 1 = cc in absurd (omega arith)
-whose hashes b (tried l t) s e =
-    elim (attempt-is (sizesOf (length hashes)) (sorted hashes)) [
-      | inl z ↦
-          let q : byAttempt (sizesOf (length hashes)) (attemptOf (sizesOf (length hashes)) (sorted hashes)) ≡ Positive = ap (byAttempt (sizesOf (length hashes))) (z .0) in
-          let z : _≡_ {A = ℕ} 0 1 = cc in absurd (omega arith)
-      | inr f ↦
-          let q = by-some (sizesOf (length hashes)) (attemptOf (sizesOf (length hashes)) (sorted hashes)) (λ z. omega (arith, f .from)) in
-          record {
-            attempt = attemptOf (sizesOf (length hashes)) (sorted hashes);
-            some-hash = l;
-            numbered = (f .from, omega (arith, f .below));
-            sizes = cc;
-            peels = f .peels;
-            first = λ i a m. f .before i a (omega arith);
-          }
-    ]
+whose hashes b (tried l t) s e = go (attemptOf (sizesOf (length hashes)) (sorted hashes)) refl e
+  where
+    go : (o : Option (ℕ × ℕ)) → attemptOf (sizesOf (length hashes)) (sorted hashes) ≡ o → byAttempt (sizesOf (length hashes)) o ≡ Fuse s → FilterOf hashes s
+    go none q p = let z : _≡_ {A = ℕ} 0 1 = cc in absurd (omega arith)
+    go (some (i, a)) q p =
+        let F = attempt-some (sizesOf (length hashes)) (sorted hashes) i a q in
+        let r : seeded (sizesOf (length hashes)) a ≡ s = cc in
+        record {
+          attempt = i + 1;
+          some-hash = l;
+          numbered = (omega arith, omega (arith, F .below));
+          sizes = sym (ap (seeded (sizesOf (length hashes))) (F .seed-is) ∙ r);
+          peels = F .peels;
+          first = F .before;
+        }
 
 pub built-filter : (hashes : List ℕ) (s : Sizes) → builtOf hashes ≡ Fuse s → FilterOf hashes s
-built-filter hashes s e = whose hashes (builtOf hashes) (way hashes) s e
+built-filter hashes s e = whose hashes (builtOf hashes) (built-way hashes) s e
 
 module _ (hashes : List ℕ) (s : Sizes) (F : FilterOf hashes s) (few : length hashes ≤ 65536) where
-  filter-usable : Usable (s .segment) (s .count)
-  unfolding sizesOf
-  filter-usable = subst (λ (x : Sizes). Usable (x .segment) (x .count)) (sym (F .sizes)) (usable (length hashes) (F .some-hash) (omega arith))
-
-  filter-keys : s .keys ≡ length hashes
-  unfolding sizesOf
-  filter-keys = ap (λ (x : Sizes). x .keys) (F .sizes)
-
   -- reading accepts its sizes beside its cells
   filter-accepted : Accepted s (length (cellsOf (s .segment) (s .count) (s .seed) (sorted hashes)))
-  filter-accepted = record {
-    some-key = omega (arith, filter-keys, F .some-hash);
-    few-keys = omega (arith, filter-keys);
-    fits = record { usable = filter-usable; whole = cells-length (s .segment) (s .count) (s .seed) (sorted hashes) };
-  }
+  unfolding sizesOf
+  filter-accepted =
+      rw cells-length
+      (subst (λ (x : Sizes). Accepted x (cellsIn (x .segment) (x .count))) (sym (F .sizes))
+      (sizes-accepted (length hashes) (mixOf (F .attempt)) (F .some-hash) (omega arith)))
+
+  filter-usable : Usable (s .segment) (s .count)
+  filter-usable = filter-accepted .fits .usable
 
   filter-seed : s .seed < 2 ^ 64
   filter-seed = subst (λ (x : Sizes). x .seed < 2 ^ 64) (sym (F .sizes)) (mixOf-lt (F .attempt))
@@ -144,9 +114,9 @@ module _ (hashes : List ℕ) (s : Sizes) (F : FilterOf hashes s) (few : length h
 -- ---- the bytes written
 
 written-by : (b : Built) (hs out : List ℕ) → ((q : ℕ) → b ≡ Refused q → ⊥) → take (lengthBy b) (outBy b hs out) ≡ writtenBy b hs
-written-by Positive hs out n = ap (take 48) (in-front out positiveBytes) ∙ take-at positiveBytes _ 48 positive-length
+written-by Positive hs out n = ap (take 48) (splice-front out positiveBytes) ∙ take-at positiveBytes _ 48 positive-length
 written-by (Fuse s) hs out n =
-    ap (take (48 + cellsIn (s .segment) (s .count))) (in-front out (headerOf s ++ cellsOf (s .segment) (s .count) (s .seed) hs))
+    ap (take (48 + cellsIn (s .segment) (s .count))) (splice-front out (headerOf s ++ cellsOf (s .segment) (s .count) (s .seed) hs))
     ∙ take-at (headerOf s ++ cellsOf (s .segment) (s .count) (s .seed) hs) _ (48 + cellsIn (s .segment) (s .count))
     (omega (arith, length-append (headerOf s) (cellsOf (s .segment) (s .count) (s .seed) hs), header-length s, cells-length (s .segment) (s .count) (s .seed) hs))
 written-by (Refused r) hs out n = absurd (n r refl)
@@ -183,15 +153,6 @@ refused-is : (k : ℕ) (b : Built) (q : ℕ) → unlessRefused k b ≡ Refused q
 refused-is zero b q e n = absurd (n q e)
 refused-is (suc k) b q e n = let z : suc k ≡ q = cc in (z, omega arith)
 
-never-refused : (hashes : List ℕ) (b : Built) → Way hashes b → (q : ℕ) → b ≡ Refused q → ⊥
-never-refused hashes b (none z) q e = let z : _≡_ {A = ℕ} 0 1 = cc in omega arith
-never-refused hashes b (double t) q e = let z : _≡_ {A = ℕ} 0 1 = cc in omega arith
-never-refused hashes b (tried l t) q e = go (attemptOf (sizesOf (length hashes)) (sorted hashes)) e
-  where
-    go : (a : ℕ) → byAttempt (sizesOf (length hashes)) a ≡ Refused q → ⊥
-    go zero p = let z : _≡_ {A = ℕ} 0 1 = cc in omega arith
-    go (suc a) p = let z : _≡_ {A = ℕ} 0 1 = cc in omega arith
-
 module _ {hashes wide narrow out : List ℕ} {r : Built} {hashes' wide' narrow' out' : List ℕ} (P : BuildPost hashes wide narrow out r hashes' wide' narrow' out') where
   number : ℕ
   number = buildRefusal (length hashes) (length wide) (length narrow) (length out)
@@ -204,7 +165,7 @@ module _ {hashes wide narrow out : List ℕ} {r : Built} {hashes' wide' narrow' 
   pub refused-cause : (q : ℕ) → r ≡ Refused q → First q (buildCauses (length hashes) (length wide) (length narrow) (length out))
   unfolding buildRefusal number
   refused-cause q e =
-      let f = refused-is number (builtOf hashes) q (answered ∙ e) (never-refused hashes (builtOf hashes) (way hashes)) in
+      let f = refused-is number (builtOf hashes) q (answered ∙ e) (not-refused (length hashes) (sorted hashes) (builtOf hashes) (built-way hashes)) in
       first-only q _ (f .1) (f .0)
 
   -- and where a check fails there is a refusal

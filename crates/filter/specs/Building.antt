@@ -1,16 +1,18 @@
 -- Building a filter, after document 01, "Arithmetic and construction" and "Calls".
 use mathlib.Core.Bool.{Bool, true, false, cond}
 use mathlib.Core.List.{List, [], _∷_, _++_}
+use mathlib.Core.Option.{Option, none, some}
 use mathlib.Core.Path.{_≡_}
 use Prim.Native.Nat.{ℕ, zero, suc, _+_, _*_, _≤_, _<_, _^_}
 use lib.Dec.{ltb}
 use lib.ListN.{length, replicate}
 use Rattle.laws.specs.Refusals.{Cause, cause, firstOf}
 use Rattle.laws.specs.Count.{count}
+use Rattle.laws.specs.Steps.{least}
 use Rattle.words.specs.Field.{splice}
 use Rattle.mixing.specs.Mixing.{mixOf}
 use Rattle.fuse.specs.declared.Sizes.{Sizes}
-use Rattle.fuse.specs.Positions.{cellsIn, Usable}
+use Rattle.fuse.specs.Positions.{cellsIn, Fits}
 use Rattle.fuse.specs.Asking.{containsOf}
 use Rattle.fuse.specs.Layout.{positiveBytes, headerOf}
 use Rattle.sizing.specs.declared.Plan.{Plan}
@@ -57,23 +59,27 @@ pub record Roomy (n wide narrow out : ℕ) : Type 0 where
 abbrev pub peelsBy : Sizes → List ℕ → ℕ → Bool
 peelsBy s hashes i = succeeds (s .segment) (s .count) (mixOf i) hashes
 
--- the first of the k attempts from i on that peels every hash, 0 if none does
-unfoldable pub firstFrom : Sizes → List ℕ → (k i : ℕ) → ℕ
-firstFrom s hashes zero i = 0
-firstFrom s hashes (suc k) i = cond (peelsBy s hashes i) i (firstFrom s hashes k (suc i))
+-- what attempt i + 1 gives: its seed, if it peels every hash
+abbrev pub seedBy : Sizes → List ℕ → ℕ → Option ℕ
+seedBy s hashes i = cond (peelsBy s hashes (i + 1)) (some (mixOf (i + 1))) none
 
--- of the 100 attempts, from 1 on
-unfoldable pub attemptOf : Sizes → List ℕ → ℕ
-attemptOf s hashes = firstFrom s hashes 100 1
+-- the first of the attempts 1 to 100 that peels every hash: one less than its number, and its seed
+unfoldable pub attemptOf : Sizes → List ℕ → Option (ℕ × ℕ)
+attemptOf s hashes = least (seedBy s hashes) 100 0
+
+-- its number, 0 for none
+abbrev pub attemptNumber : Option (ℕ × ℕ) → ℕ
+attemptNumber none = 0
+attemptNumber (some (i, seed)) = i + 1
 
 -- the sizes with a seed
 abbrev pub seeded : Sizes → (seed : ℕ) → Sizes
 seeded s seed = record { keys = s .keys; seed = seed; segment = s .segment; count = s .count }
 
 -- by the attempt that peels every hash: Positive if there is none
-abbrev pub byAttempt : Sizes → (attempt : ℕ) → Built
-byAttempt s zero = Positive
-byAttempt s (suc i) = Fuse (seeded s (mixOf (suc i)))
+abbrev pub byAttempt : Sizes → Option (ℕ × ℕ) → Built
+byAttempt s none = Positive
+byAttempt s (some (i, seed)) = Fuse (seeded s seed)
 
 -- by the plan: Positive for no hashes, and for two that are equal
 unfoldable pub byPlan : Plan → List ℕ → Built
@@ -120,8 +126,8 @@ lengthBy (Refused r) = 0
 
 -- the output: they stand in front of what stood there; refused, it is as it was
 abbrev pub outBy : Built → (hashes out : List ℕ) → List ℕ
-outBy Positive hashes out = splice out 0 positiveBytes
-outBy (Fuse s) hashes out = splice out 0 (headerOf s ++ cellsOf (s .segment) (s .count) (s .seed) hashes)
+outBy Positive hashes out = splice out 0 (writtenBy Positive hashes)
+outBy (Fuse s) hashes out = splice out 0 (writtenBy (Fuse s) hashes)
 outBy (Refused r) hashes out = out
 
 -- the hashes: sorted, unless refused
@@ -171,16 +177,15 @@ asRead (Refused r) = read.Refused
 
 -- lengths that the attempts work with
 pub record Spaced (s : Sizes) (n wide narrow cells : ℕ) : Type 0 where
-  pub usable : Usable (s .segment) (s .count)
-  pub whole : cells ≡ cellsIn (s .segment) (s .count)
+  pub fits : Fits (s .segment) (s .count) cells
   pub few : n + 1 < 2 ^ 32
   pub wide-room : cells + n ≤ wide
   pub narrow-room : cells + cells + n ≤ narrow
 
 -- how the attempts ended, and the cells after them
 pub record Searched (s : Sizes) (hashes before after : List ℕ) (attempt : ℕ) : Type 0 where
-  pub first : attempt ≡ attemptOf s hashes
-  pub cells : after ≡ cellsBy (byAttempt s attempt) hashes before
+  pub first : attempt ≡ attemptNumber (attemptOf s hashes)
+  pub cells : after ≡ cellsBy (byAttempt s (attemptOf s hashes)) hashes before
 
 -- what was built over the cells
 pub record Constructed (s : Sizes) (hashes before after : List ℕ) (r : Built) : Type 0 where

@@ -2,7 +2,7 @@
 ghost use mathlib.Core.Bool.{false};
 ghost use mathlib.Core.Path.{_≡_};
 ghost use lib.ListN.{length};
-ghost use Rattle.fuse.specs.Asking.{Fits};
+ghost use Rattle.fuse.specs.Positions.{Fits};
 ghost use Rattle.filter.specs.Building.{cellsFor, buildRefusal, Roomy, Spaced, Searched, Constructed, Missing, Made, Laid};
 use super::Built;
 use fuse::Sizes;
@@ -17,7 +17,7 @@ fn cells_for(n: usize) -> usize
     let plan = Plan::of(n);
     match plan {
         Plan::Positive => 0,
-        Plan::Fuse(s) => (s.count as usize + 3) * s.segment as usize,
+        Plan::Fuse(s) => Sizes::cells(s),
     }
 }
 
@@ -25,7 +25,7 @@ fn cells_for(n: usize) -> usize
 pub fn refusal(n: usize, wide: usize, narrow: usize, out: usize) -> u8
     ensures { λ r. ⌜ r ≡ buildRefusal n wide narrow out ⌝ }
 {
-    if Built::LARGEST < n {
+    if Built::MAX_HASHES < n {
         return Built::MANY;
     }
     let c = cells_for(n);
@@ -64,7 +64,7 @@ fn search(hashes: &[u64], wide: &mut [u64], narrow: &mut [u32], cells: &mut [u8]
 
 // The closing membership check: whether every hash is in the cells.
 fn all_present(hashes: &[u64], cells: &[u8], s: Sizes) -> bool
-    requires { ⌜ Fits s (length (now cells)) ⌝ }
+    requires { ⌜ Fits (s .segment) (s .count) (length (now cells)) ⌝ }
     ensures { λ r. ⌜ (r ≡ false → Missing (now (cells .entry)) s (now (hashes .entry))) ⌝ }
 {
     let mut i = 0;

@@ -1,13 +1,18 @@
--- Laws of the xor of cells: from the last position back to the first. Assumes nothing.
+-- Laws of asking: the filter's h is a word, and the xor of cells goes from the last position back to the first. Assumes nothing.
 use mathlib.Core.Path.{_≡_, refl, ap, _∙_}
 use mathlib.Core.List.{List}
-use Prim.Native.Nat.{ℕ, suc, _-_, _≤_, _<_}
+use Prim.Native.Nat.{ℕ, suc, _-_, _^_, _≤_, _<_}
 use native.Mathlib.Omega.{arith}
 use lib.Bits.{bitXor}
 use lib.ListN.{length, getD, drop}
 use lib.Seq.{drop-cons}
 use Rattle.fuse.specs.Positions.{positionsOf}
-use Rattle.fuse.specs.Asking.{xorAt}
+use Rattle.mixing.specs.Mixing.{mixOf-lt}
+use Rattle.fuse.specs.Asking.{graphHash, xorAt}
+
+pub graph-lt : (seed hash : ℕ) → graphHash seed hash < 2 ^ 64
+unfolding graphHash
+graph-lt seed hash = mixOf-lt _
 
 -- past the last position
 pub xor-start : (cells : List ℕ) (segment count h : ℕ) → 0 ≡ xorAt cells (drop 4 (positionsOf segment count h))

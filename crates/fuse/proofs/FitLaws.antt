@@ -1,5 +1,5 @@
 -- Laws of the test of sizes: what it passes, as facts. Assumes nothing.
-use mathlib.Core.Path.{_≡_, refl}
+use mathlib.Core.Path.{_≡_, sym}
 use mathlib.Core.Bool.{Bool, true, false, _&&_, and-eq-true-iff}
 use Prim.Native.Nat.{ℕ, _+_, _*_, _^_, _≤_, _<_}
 use native.Mathlib.Nat.{lt-of-le-of-lt, mul-le-mul}
@@ -7,6 +7,7 @@ use native.Mathlib.Omega.{arith}
 use lib.Count.{ones}
 use lib.Dec.{leb, ltb, eqb}
 use borrow.Author.Tests.{eq-eqb, eqb-true, leb-true, ltb-true, le-leb, lt-ltb}
+use Rattle.laws.specs.Cases.{by-test}
 use Rattle.laws.specs.Power.{PowerOfTwo, power-pos, power-ones, ones-power}
 use Rattle.fuse.specs.declared.Sizes.{Sizes}
 use Rattle.fuse.specs.Positions.{cellsIn, Usable}
@@ -68,11 +69,7 @@ accepted-fitting s cells a =
 
 -- sizes that lack a fact do not pass
 pub not-fitting : (s : Sizes) (cells : ℕ) → (Accepted s cells → ⊥) → false ≡ fitting s cells
-not-fitting s cells no-way = by-test (fitting s cells) (fitting-accepted s cells)
-  where
-    by-test : (b : Bool) → (b ≡ true → Accepted s cells) → false ≡ b
-    by-test true f = absurd (no-way (f refl))
-    by-test false f = refl
+not-fitting s cells no-way = by-test (fitting s cells) (λ t. absurd (no-way (fitting-accepted s cells t))) (λ t. sym t)
 
 -- an accepted segment has one 1
 pub accepted-ones : (s : Sizes) (cells : ℕ) → Accepted s cells → ones (s .segment) ≡ 1

@@ -1,5 +1,6 @@
 -- Laws of the four positions: each lies in a segment of its own, so they are below the cells and pairwise apart. Assumes nothing.
 use mathlib.Core.Path.{_≡_, refl, sym, ap, ap₂, _∙_, subst}
+use mathlib.Core.List.{[], _∷_}
 use Prim.Native.Nat.{ℕ, zero, suc, _+_, _-_, _*_, _/_, _%_, _^_, _≤_, _<_}
 use native.Mathlib.Nat.{add-zero, mul-comm, mul-le-mul-right, le-of-lt, div-le-of-le-mul, mod-lt, div-eq-of-lt, add-mul-div-right, div-lt-iff-lt-mul, mul-lt-mul-of-pos-left, mul-pos, add-left-cancel}
 use native.Mathlib.Omega.{arith}
@@ -56,6 +57,11 @@ position-at segment count h (suc zero) l = refl
 position-at segment count h (suc (suc zero)) l = refl
 position-at segment count h (suc (suc (suc zero))) l = refl
 position-at segment count h (suc (suc (suc (suc i)))) l = absurd (omega arith)
+
+pub positions-are : (segment count h a b c d : ℕ) → a ≡ cellOf segment count h 0 → b ≡ cellOf segment count h 1 → c ≡ cellOf segment count h 2 → d ≡ cellOf segment count h 3
+    → a ∷ b ∷ c ∷ d ∷ [] ≡ positionsOf segment count h
+unfolding positionsOf
+positions-are segment count h a b c d ea eb ec ed = rw (ea, eb, ec, ed) refl
 
 pub positions-length : (segment count h : ℕ) → length (positionsOf segment count h) ≡ 4
 unfolding positionsOf

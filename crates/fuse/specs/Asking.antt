@@ -1,14 +1,13 @@
 -- Whether a filter's cells hold a hash, after document 01, "Arithmetic and construction".
 use mathlib.Core.Bool.{Bool}
 use mathlib.Core.List.{List, [], _∷_}
-use mathlib.Core.Path.{_≡_}
 use Prim.Native.Nat.{ℕ, _+_, _%_, _^_}
 use lib.Bits.{bitXor}
 use lib.Dec.{eqb}
 use lib.ListN.{getD}
 use Rattle.mixing.specs.Mixing.{mixOf}
 use Rattle.fuse.specs.declared.Sizes.{Sizes}
-use Rattle.fuse.specs.Positions.{cellsIn, Usable, positionsOf}
+use Rattle.fuse.specs.Positions.{positionsOf}
 
 -- the filter's h: mix(hash + seed), wrapping
 unfoldable pub graphHash : (seed hash : ℕ) → ℕ
@@ -23,8 +22,3 @@ xorAt cells (p ∷ ps) = bitXor (getD cells p 0) (xorAt cells ps)
 unfoldable pub containsOf : List ℕ → Sizes → (hash : ℕ) → Bool
 containsOf cells s hash =
     eqb (xorAt cells (positionsOf (s .segment) (s .count) (graphHash (s .seed) hash))) (graphHash (s .seed) hash % 256)
-
--- sizes that fit so many cells
-pub record Fits (s : Sizes) (cells : ℕ) : Type 0 where
-  pub usable : Usable (s .segment) (s .count)
-  pub whole : cells ≡ cellsIn (s .segment) (s .count)

@@ -8,8 +8,7 @@ use lib.ListN.{length, take, replicate}
 use Rattle.words.specs.Field.{le, bytesOf}
 use Rattle.words.specs.Part.{sameAs}
 use Rattle.fuse.specs.declared.Sizes.{Sizes}
-use Rattle.fuse.specs.Positions.{cellsIn}
-use Rattle.fuse.specs.Asking.{Fits}
+use Rattle.fuse.specs.Positions.{cellsIn, Fits}
 
 -- KIBANFL2
 unfoldable pub magic : List ℕ
@@ -41,7 +40,7 @@ fitting s cells =
 pub record Accepted (s : Sizes) (cells : ℕ) : Type 0 where
   pub some-key : 1 ≤ s .keys
   pub few-keys : s .keys < 2 ^ 32
-  pub fits : Fits s cells
+  pub fits : Fits (s .segment) (s .count) cells
 
 -- the sizes that stand in a header
 unfoldable pub sizesIn : List ℕ → Sizes

@@ -1,4 +1,5 @@
 -- The four filter positions of a hash, after document 01, "Arithmetic and construction".
+use mathlib.Core.Path.{_≡_}
 use mathlib.Core.List.{List, [], _∷_}
 use Prim.Native.Nat.{ℕ, zero, suc, _+_, _*_, _/_, _%_, _^_, _≤_, _<_}
 use lib.Bits.{bitXor}
@@ -14,6 +15,11 @@ pub record Usable (segment count : ℕ) : Type 0 where
   pub most : segment ≤ 262144
   pub counted : 1 ≤ count
   pub small : cellsIn segment count < 2 ^ 32
+
+-- a segment and a count that fit so many cells
+pub record Fits (segment count cells : ℕ) : Type 0 where
+  pub usable : Usable segment count
+  pub whole : cells ≡ cellsIn segment count
 
 -- a: the whole part of h × count × segment / 2^64
 unfoldable pub firstCell : (segment count h : ℕ) → ℕ

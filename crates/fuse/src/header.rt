@@ -92,20 +92,20 @@ pub fn fits(s: Sizes, cells: usize) -> bool
     if keys < 1 {
         return false;
     }
-    if Sizes::LARGEST_KEYS < keys {
+    if Sizes::MAX_KEYS < keys {
         return false;
     }
     if u32::count_ones(segment) != 1 {
         return false;
     }
-    if Sizes::LARGEST_SEGMENT < segment {
+    if Sizes::MAX_SEGMENT < segment {
         return false;
     }
     if count < 1 {
         return false;
     }
-    let whole = (count as usize + 3) * segment as usize;
-    if Sizes::LARGEST_CELLS < whole {
+    let whole = Sizes::cells(s);
+    if Sizes::MAX_CELLS < whole {
         return false;
     }
     cells == whole
@@ -116,15 +116,13 @@ pub fn put_header(out: &mut [u8], s: Sizes)
     requires { ⌜ (48 ≤ length (now out)) × (cellsIn (s .segment) (s .count) < 2 ^ 32) ⌝ }
     ensures { λ _. ⌜ now (out .exit) ≡ splice (now (out .entry)) 0 (headerOf s) ⌝ }
 {
-    let segment = s.segment;
-    let count = s.count;
-    let cells = ((count as u64 + 3) * segment as u64) as u32;
+    let cells = Sizes::cells(s) as u32;
     field::put_u64(out, 0, MAGIC);
     field::put_u64(out, 8, FUSE);
     field::put_u64(out, 16, s.keys);
     field::put_u64(out, 24, s.seed);
-    field::put_u32(out, 32, segment);
-    field::put_u32(out, 36, count);
+    field::put_u32(out, 32, s.segment);
+    field::put_u32(out, 36, s.count);
     field::put_u32(out, 40, cells);
     field::put_u32(out, 44, cells);
 }

@@ -1,9 +1,9 @@
 // A filter's sizes, the four cells of a hash, and the header in front of the cells.
 ghost use mathlib.Core.Path.{_≡_};
-ghost use Prim.Native.Nat.{_<_};
+ghost use Prim.Native.Nat.{_<_, _^_};
 ghost use lib.ListN.{length};
-ghost use Rattle.fuse.specs.Positions.{Usable, cellsIn, cellOf, positionsOf};
-ghost use Rattle.fuse.specs.Asking.{graphHash, xorAt, Fits, containsOf};
+ghost use Rattle.fuse.specs.Positions.{Usable, Fits, cellsIn, cellOf, positionsOf};
+ghost use Rattle.fuse.specs.Asking.{graphHash, xorAt, containsOf};
 
 pub mod header;
 
@@ -19,11 +19,19 @@ impl Sizes {
     // The bytes in front of the cells.
     pub const HEADER: usize = 48;
 
-    pub const LARGEST_SEGMENT: u32 = 262_144;
+    pub const MAX_SEGMENT: u32 = 262_144;
 
-    pub const LARGEST_KEYS: u64 = 0xffff_ffff;
+    pub const MAX_KEYS: u64 = 0xffff_ffff;
 
-    pub const LARGEST_CELLS: usize = 0xffff_ffff;
+    pub const MAX_CELLS: usize = 0xffff_ffff;
+
+    // The number of cells: there are 3 segments more than the count.
+    pub fn cells(s: Sizes) -> usize
+        requires { ⌜ cellsIn (s .segment) (s .count) < 2 ^ 64 ⌝ }
+        ensures { λ r. ⌜ r ≡ cellsIn (s .segment) (s .count) ⌝ }
+    {
+        (s.count as usize + 3) * s.segment as usize
+    }
 }
 
 // Position i of the hash h: the first is a, each other lies in a segment of its own behind it.
@@ -37,6 +45,18 @@ pub fn cell(segment: usize, count: usize, h: u64, i: usize) -> usize
     }
     let word = (h >> (16 * (i - 1))) as usize;
     (a + i * segment) ^ (word & (segment - 1))
+}
+
+// All four, in position order.
+pub fn positions(segment: usize, count: usize, h: u64) -> [usize; 4]
+    requires { ⌜ Usable segment count ⌝ }
+    ensures { λ r. ⌜ r ≡ positionsOf segment count h ⌝ }
+{
+    let a = cell(segment, count, h, 0);
+    let b = cell(segment, count, h, 1);
+    let c = cell(segment, count, h, 2);
+    let d = cell(segment, count, h, 3);
+    [a, b, c, d]
 }
 
 // The xor of the four cells of the hash h.
@@ -63,7 +83,7 @@ pub fn graph_hash(seed: u64, hash: u64) -> u64
 
 // Whether a hash is present: its four cells xor to the low byte of its h.
 pub fn contains(cells: &[u8], s: Sizes, hash: u64) -> bool
-    requires { ⌜ Fits s (length (now cells)) ⌝ }
+    requires { ⌜ Fits (s .segment) (s .count) (length (now cells)) ⌝ }
     ensures { λ r. ⌜ r ≡ containsOf (now (cells .entry)) s hash ⌝ }
 {
     let h = graph_hash(s.seed, hash);

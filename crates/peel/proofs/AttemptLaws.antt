@@ -6,9 +6,10 @@ use Prim.Native.Nat.{ℕ, _+_, _%_, _<_, _≤_}
 use native.Mathlib.Omega.{arith}
 use borrow.Author.Tests.{eqb-true, eq-eqb, ne-eqb}
 use lib.Dec.{eqb}
-use lib.ListN.{length, replicate, length-set, length-replicate, length-map}
+use lib.ListN.{length, replicate, length-set, length-replicate, length-map, drop-of-length-le}
+use Rattle.laws.specs.Cases.{by-test}
 use Rattle.laws.specs.Count.{one, count}
-use Rattle.laws.proofs.CountLaws.{by-test, count-nil, count-cons, count-here}
+use Rattle.laws.specs.CountLaws.{count-nil, count-cons, count-here}
 use Rattle.fuse.specs.Asking.{graphHash, xorAt, containsOf}
 use Rattle.fuse.specs.Positions.{Usable, cellsIn, positionsOf}
 use Rattle.fuse.specs.declared.Sizes.{Sizes}
@@ -41,10 +42,6 @@ module _ (segment number seed : ℕ) (u : Usable segment number) (hashes : List 
 
 -- ---- by the hashes left
 
-none-left : (xs : List ℕ) → length xs ≡ 0 → xs ≡ []
-none-left [] e = refl
-none-left (x ∷ xs) e = absurd (omega arith)
-
 module _ (pos : ℕ → List ℕ) (c : ℕ) (hs : List ℕ) where
   peels-all : length (attempt pos c hs .left) ≡ 0 → peelsAll pos c hs ≡ true
   unfolding peelsAll
@@ -56,7 +53,7 @@ module _ (pos : ℕ → List ℕ) (c : ℕ) (hs : List ℕ) where
 
   all-left : peelsAll pos c hs ≡ true → attempt pos c hs .left ≡ []
   unfolding peelsAll
-  all-left e = none-left _ (eqb-true _ _ e)
+  all-left e = drop-of-length-le (attempt pos c hs .left) {i = 0} (omega (arith, eqb-true (length (attempt pos c hs .left)) 0 e))
 
   filled-is : (es : List Peel) → attempt pos c hs .peeled ≡ es → fill pos es (replicate c 0) ≡ filled pos c hs
   unfolding filled
@@ -116,7 +113,7 @@ module _ (g : Graph) (w : Whole g) (hashes before wide narrow : List ℕ) (top n
     where
       no : succeeds (g .segment) (g .count) (g .seed) hashes ≡ false
       no =
-          ap (λ (c : ℕ). peelsAll (positionsOf (g .segment) (g .count)) c (mixed (g .seed) hashes)) (sym (w .cells-are))
+          ap (λ (c : ℕ). peelsAll (positionsOf (g .segment) (g .count)) c (mixed (g .seed) hashes)) (sym (w .whole))
           ∙ peels-some _ (g .cells) (mixed (g .seed) hashes) (λ e. omega (arith, whole-sum))
 
   pub tried-yes : length hashes ≤ n → (after : List ℕ) → after ≡ fill (positionsOf (g .segment) (g .count)) (peels (g .cells) n wide narrow) (replicate (g .cells) 0)
@@ -125,8 +122,8 @@ module _ (g : Graph) (w : Whole g) (hashes before wide narrow : List ℕ) (top n
     where
       yes : succeeds (g .segment) (g .count) (g .seed) hashes ≡ true
       yes =
-          ap (λ (c : ℕ). peelsAll (positionsOf (g .segment) (g .count)) c (mixed (g .seed) hashes)) (sym (w .cells-are))
+          ap (λ (c : ℕ). peelsAll (positionsOf (g .segment) (g .count)) c (mixed (g .seed) hashes)) (sym (w .whole))
           ∙ peels-all _ (g .cells) (mixed (g .seed) hashes) (omega (arith, whole-sum))
 
       full : fill (positionsOf (g .segment) (g .count)) (peels (g .cells) n wide narrow) (replicate (g .cells) 0) ≡ cellsOf (g .segment) (g .count) (g .seed) hashes
-      full = filled-is (positionsOf (g .segment) (g .count)) (g .cells) (mixed (g .seed) hashes) _ (R .peeled) ∙ ap (λ (c : ℕ). filled (positionsOf (g .segment) (g .count)) c (mixed (g .seed) hashes)) (w .cells-are)
+      full = filled-is (positionsOf (g .segment) (g .count)) (g .cells) (mixed (g .seed) hashes) _ (R .peeled) ∙ ap (λ (c : ℕ). filled (positionsOf (g .segment) (g .count)) c (mixed (g .seed) hashes)) (w .whole)

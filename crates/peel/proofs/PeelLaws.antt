@@ -8,45 +8,15 @@ use native.Mathlib.Omega.{arith}
 use borrow.Author.Tests.{eqb-true, eqb-false, eq-eqb, ltb-true, ltb-false}
 use lib.Dec.{eqb, ltb}
 use lib.Bits.{bitXor, xor-zero-l}
-use lib.ListN.{length, getD, set, replicate, length-set, length-append, length-replicate, getD-replicate, List·getD-eq-default}
+use lib.ListN.{length, getD, set, replicate, length-set, length-append, length-replicate, getD-replicate, drop-of-length-le, List·getD-eq-default}
 use lib.Seq.{getD-set-same, getD-set-other}
+use Rattle.laws.specs.Cases.{by-test}
 use Rattle.laws.specs.Count.{one, count, among, keep, without, rising}
 use Rattle.peel.specs.Peel.{Peel, Attempt, lying, degree, queued, start, skip, peel, settle, next, step, run, attempt, put, fill, Present, filled}
 use Rattle.fuse.specs.Asking.{xorAt}
 use Rattle.peel.specs.Sound.{Placed, Peelable, hashes, Sound}
-use Rattle.laws.proofs.XorLaws.{xor-swap, xor-back}
-use Rattle.laws.proofs.CountLaws.{count-nil, count-cons, count-here, count-other, count-append, by-test, count-without, length-without, pigeonhole, without-cons}
-
--- in a list with none twice, a number stands once or not at all
-pub among-once : (v : ℕ) (ps : List ℕ) → count v ps ≤ 1 → one (among v ps) ≡ count v ps
-among-once v ps o = go (count v ps) refl o
-  where
-    go : (n : ℕ) → count v ps ≡ n → n ≤ 1 → one (ltb 0 n) ≡ n
-    go zero e k = refl
-    go (suc zero) e k = refl
-    go (suc (suc n)) e k = omega arith
-
-pub rising-cons : (i n : ℕ) → rising i (suc n) ≡ i ∷ rising (suc i) n
-unfolding rising
-rising-cons i n = refl
-
-pub rising-none : (i : ℕ) → rising i 0 ≡ []
-unfolding rising
-rising-none i = refl
-
--- each number from i on stands once in `rising`, and no other
-pub count-rising : (n i v : ℕ) → (count v (rising i n) ≤ 1) × (v < i → count v (rising i n) ≡ 0) × (i + n ≤ v → count v (rising i n) ≡ 0)
-count-rising zero i v = rw (rising-none, count-nil) (omega arith, (λ h. refl), (λ h. refl))
-count-rising (suc n) i v =
-    by-test (eqb v i)
-    (λ e.
-    let k : v ≡ i = eqb-true v i e in
-    let z : count v (rising (suc i) n) ≡ 0 = count-rising n (suc i) v .1 (omega arith) in
-    rw (rising-cons, count-cons, e, z) (omega arith))
-    (λ e.
-    let d : v ≡ i → ⊥ = eqb-false v i e in
-    rw (rising-cons, count-other v i _ d)
-    (count-rising n (suc i) v .0, (λ h. count-rising n (suc i) v .1 (omega arith)), (λ h. count-rising n (suc i) v .2 (omega arith))))
+use Rattle.laws.specs.XorLaws.{xor-swap, xor-back}
+use Rattle.laws.specs.CountLaws.{count-nil, count-cons, count-here, count-other, count-append, count-below, among-once, count-without, length-without, pigeonhole, without-cons, rising-once, rising-not}
 
 module _ (pos : ℕ → List ℕ) where
   pub lying-nil : (p : ℕ) → lying pos p [] ≡ []
@@ -56,6 +26,9 @@ module _ (pos : ℕ → List ℕ) where
   pub lying-cons : (p h : ℕ) (hs : List ℕ) → lying pos p (h ∷ hs) ≡ keep (among p (pos h)) h (lying pos p hs)
   unfolding lying
   lying-cons p h hs = refl
+
+  pub degree-nil : (p : ℕ) → degree pos p [] ≡ 0
+  degree-nil p = ap length (lying-nil p)
 
   pub degree-cons : (p h : ℕ) (hs : List ℕ) → degree pos p (h ∷ hs) ≡ one (among p (pos h)) + degree pos p hs
   degree-cons p h hs =
@@ -146,11 +119,11 @@ module _ (pos : ℕ → List ℕ) (c : ℕ) (hs : List ℕ) where
   sound-start =
       record {
         once = λ v. by-test (eqb (degree pos v hs) 1)
-            (λ t. omega (arith, count-nil v, queued-yes pos hs v (eqb-true _ _ t) (rising 0 c) [], count-rising c 0 v .0))
+            (λ t. omega (arith, count-nil v, queued-yes pos hs v (eqb-true _ _ t) (rising 0 c) [], rising-once 0 c v))
             (λ t. omega (arith, count-nil v, queued-no pos hs v (eqb-false _ _ t) (rising 0 c) []));
         light = λ v h. omega (arith, count-nil v, queued-no pos hs v (λ e. omega arith) (rising 0 c) []);
         below = λ v h. by-test (eqb (degree pos v hs) 1)
-            (λ t. omega (arith, count-nil v, queued-yes pos hs v (eqb-true _ _ t) (rising 0 c) [], count-rising c 0 v .2 (omega arith)))
+            (λ t. omega (arith, count-nil v, queued-yes pos hs v (eqb-true _ _ t) (rising 0 c) [], rising-not 0 c v (omega arith)))
             (λ t. omega (arith, count-nil v, queued-no pos hs v (eqb-false _ _ t) (rising 0 c) []));
         good = tt;
         sum = omega arith;
@@ -262,11 +235,7 @@ module _ (pos : ℕ → List ℕ) (c : ℕ) (hs : List ℕ) (placed : (h : ℕ) 
   -- as many steps as there are cells not yet taken empty the queue
   pub run-ends : (n : ℕ) (s : Attempt) → Sound pos c hs s → c ≤ length (s .taken) + n → run pos n s .queue ≡ []
   unfolding run
-  run-ends zero s S k = none (s .queue) (omega (arith, room pos c hs s S))
-    where
-      none : (q : List ℕ) → length q ≡ 0 → q ≡ []
-      none [] h = refl
-      none (x ∷ xs) h = absurd (omega arith)
+  run-ends zero s S k = drop-of-length-le (s .queue) {i = 0} (omega (arith, room pos c hs s S))
   run-ends (suc n) s S k = go (s .queue) refl (λ h. run-ends n (step pos s) (sound-step pos c hs placed s S) h)
     where
       go : (q : List ℕ) → s .queue ≡ q → (c ≤ length (step pos s .taken) + n → run pos n (step pos s) .queue ≡ []) → run pos n (step pos s) .queue ≡ []
@@ -359,9 +328,7 @@ module _ (pos : ℕ → List ℕ) (c : ℕ) where
       on = omega (arith, among-once (e .cell) (pos (e .hash)) (ok .apart (e .cell)), ap one a)
 
       inside : e .cell < length fp
-      inside =
-          by-test (ltb (e .cell) c) (λ t. omega (arith, ltb-true (e .cell) c t, F .size))
-          (λ t. omega (arith, on, ok .below (e .cell) (ltb-false (e .cell) c t)))
+      inside = omega (arith, F .size, count-below c (e .cell) (pos (e .hash)) (ok .below) (omega (arith, on)))
 
   pub filling-fill : (es : List Peel) (hs fp : List ℕ) → ((h : ℕ) → 1 ≤ count h (origin es hs) → Placed c pos h) → Peelable pos es hs
       → Filling pos c hs fp → Filling pos c (origin es hs) (fill pos es fp)

@@ -1,27 +1,22 @@
 -- The four cells of a hash are apart and lie below the number of cells. Assumes nothing.
-use mathlib.Core.Path.{_≡_, refl, sym, _∙_}
+use mathlib.Core.Path.{_≡_, sym, _∙_}
 use mathlib.Core.List.{List, [], _∷_}
 use Prim.Native.Nat.{ℕ, _<_, _≤_, _^_}
 use native.Mathlib.Omega.{arith}
 use lib.ListN.{length, getD}
+use Rattle.laws.specs.Cases.{by-test}
 use Rattle.laws.specs.Count.{count}
 use borrow.Author.Tests.{eqb-true, eqb-false}
 use lib.Dec.{eqb}
-use Rattle.laws.proofs.CountLaws.{by-test, count-nil, count-other, count-none, count-apart}
-use Rattle.mixing.specs.Mixing.{mixOf-lt}
+use Rattle.laws.specs.CountLaws.{count-nil, count-other, count-none, count-apart}
 use Rattle.fuse.specs.Asking.{graphHash}
 use Rattle.peel.specs.declared.Graph.{Graph}
 use Rattle.peel.specs.Peel.{mixed}
 use Rattle.peel.specs.Loops.{Whole}
 use Rattle.fuse.specs.Positions.{Usable, cellsIn, cellOf, positionsOf}
+use Rattle.fuse.proofs.AskLaws.{graph-lt}
 use Rattle.fuse.proofs.PositionLaws.{cell-below, cell-apart, position-at, positions-length}
 use Rattle.peel.specs.Sound.{Placed}
-
--- the four cells, one by one
-pub positions-are : (segment count h a b c d : ℕ) → a ≡ cellOf segment count h 0 → b ≡ cellOf segment count h 1 → c ≡ cellOf segment count h 2 → d ≡ cellOf segment count h 3
-    → a ∷ b ∷ c ∷ d ∷ [] ≡ positionsOf segment count h
-unfolding positionsOf
-positions-are segment count h a b c d ea eb ec ed = rw (ea, eb, ec, ed) refl
 
 pub positions-placed : (segment count h : ℕ) → Usable segment count → h < 2 ^ 64 → Placed (cellsIn segment count) (positionsOf segment count) h
 positions-placed segment count h u b =
@@ -40,14 +35,10 @@ positions-placed segment count h u b =
 
 -- sizes that belong together: the number of cells fits 32 bits, and each mixed hash has its four cells
 pub whole-small : (g : Graph) → Whole g → g .cells < 2 ^ 32
-whole-small g w = rw (w .cells-are) (w .usable .small)
-
-graph-lt : (seed hash : ℕ) → graphHash seed hash < 2 ^ 64
-unfolding graphHash
-graph-lt seed hash = mixOf-lt _
+whole-small g w = rw (w .whole) (w .usable .small)
 
 pub graph-placed : (g : Graph) → Whole g → (seed hash h : ℕ) → h ≡ graphHash seed hash → Placed (g .cells) (positionsOf (g .segment) (g .count)) h
-graph-placed g w seed hash h e = rw (w .cells-are) (positions-placed (g .segment) (g .count) h (w .usable) (rw e (graph-lt seed hash)))
+graph-placed g w seed hash h e = rw (w .whole) (positions-placed (g .segment) (g .count) h (w .usable) (rw e (graph-lt seed hash)))
 
 pub mixed-placed : (segment number : ℕ) → Usable segment number → (seed : ℕ) (hashes : List ℕ) (h : ℕ) → 1 ≤ count h (mixed seed hashes)
     → Placed (cellsIn segment number) (positionsOf segment number) h
@@ -58,4 +49,4 @@ mixed-placed segment number u seed (x ∷ hashes) h k =
     (λ e. mixed-placed segment number u seed hashes h (omega (arith, count-other h (graphHash seed x) (mixed seed hashes) (eqb-false h (graphHash seed x) e))))
 
 pub whole-placed : (g : Graph) → Whole g → (hashes : List ℕ) (h : ℕ) → 1 ≤ count h (mixed (g .seed) hashes) → Placed (g .cells) (positionsOf (g .segment) (g .count)) h
-whole-placed g w hashes h k = rw (w .cells-are) (mixed-placed (g .segment) (g .count) (w .usable) (g .seed) hashes h k)
+whole-placed g w hashes h k = rw (w .whole) (mixed-placed (g .segment) (g .count) (w .usable) (g .seed) hashes h k)

@@ -1,7 +1,7 @@
 -- One step of the peeling on the workspace, all steps, the filling, and a whole attempt. Assumes nothing.
 use mathlib.Core.Path.{_≡_, refl, sym, ap, ap₂, _∙_, subst}
 use mathlib.Core.List.{List, [], _∷_}
-use Prim.Native.Nat.{ℕ, zero, suc, _+_, _-_, _%_, _<_, _≤_}
+use Prim.Native.Nat.{ℕ, zero, suc, _+_, _-_, _%_, _^_, _<_, _≤_}
 use native.Mathlib.Nat.{not-suc-le-zero}
 use native.Mathlib.Omega.{arith}
 use native.Mathlib.Numerals.{add-one}
@@ -10,15 +10,16 @@ use lib.Dec.{ltb}
 use lib.Bits.{bitXor}
 use lib.ListN.{length, getD, set, length-set}
 use lib.Seq.{getD-set-same, getD-set-other}
+use Rattle.laws.specs.Cases.{by-test}
 use Rattle.laws.specs.Count.{count, without, rising}
-use Rattle.laws.proofs.CountLaws.{count-cons, count-here, by-test}
+use Rattle.laws.specs.CountLaws.{count-cons, count-here, count-below, rising-not}
 use Rattle.fuse.specs.Asking.{xorAt}
 use Rattle.peel.specs.Peel.{Peel, Attempt, lying, skip, peel, settle, next, step, run, start, attempt, put, fill}
 use Rattle.peel.specs.Sound.{Placed, Peelable, hashes}
-use Rattle.peel.specs.Loops.{Below, Spare}
-use Rattle.peel.specs.Table.{xors, stack, peels, lowered, stirred, noted, Queued, Tables, Ready}
-use Rattle.peel.proofs.PeelLaws.{among-once, lying-head, degree-without, sound-step, sound-skip, room, sound-start, count-rising}
-use Rattle.peel.proofs.TableLaws.{xors-one, stack-suc, stack-none, length-stack, stack-same, tables-remove, tables-same, noted-queued, lowered-other, stirred-other, length-lowered, length-stirred, degree-le}
+use Rattle.peel.specs.Loops.{Below}
+use Rattle.peel.specs.Table.{xors, stack, peels, changed, plus, noted, Queued, Tables, Ready}
+use Rattle.peel.proofs.PeelLaws.{lying-head, sound-step, sound-skip, room, sound-start}
+use Rattle.peel.proofs.TableLaws.{xors-one, stack-suc, stack-none, length-stack, stack-same, tables-remove, tables-same, noted-queued, changed-other, length-changed, degree-le}
 
 -- ---- the peel stack
 
@@ -77,8 +78,8 @@ module _ (pos : ℕ → List ℕ) (c : ℕ) (hs : List ℕ) (s : Attempt) (wide 
     pub cell-under : getD narrow (c + t) 0 < c
     unfolding p
     cell-under =
-        by-test (ltb p c) (λ e. ltb-true p c e)
-        (λ e. absurd (omega (arith, R .sound .below p (ltb-false p c e), ap (count p) taken-cell, count-here p (stack c t narrow))))
+        count-below c p (s .queue) (λ v k. omega (arith, R .sound .below v k))
+        (omega (arith, ap (count p) taken-cell, count-here p (stack c t narrow)))
 
     settled : step pos s ≡ settle pos (lying pos p (s .left)) p (stack c t narrow) s
     settled = ap (λ (l : List ℕ). next pos l s) taken-cell
@@ -139,55 +140,47 @@ module _ (pos : ℕ → List ℕ) (c : ℕ) (hs : List ℕ) (s : Attempt) (wide 
           (λ v l. getD-set-other narrow (c + c + n) v _ 0 (λ z. omega arith)) (λ v l. getD-set-other wide (c + n) v _ 0 (λ z. omega arith))
 
       module _ (ps : List ℕ) (eps : ps ≡ pos (getD wide (getD narrow (c + t) 0) 0)) where
-        -- the hash can leave its cells
-        pub spare : Spare ps (set narrow (c + c + n) (getD narrow (c + t) 0)) (set wide (c + n) (getD wide (getD narrow (c + t) 0) 0))
-        unfolding h wide₁ narrow₁
-        spare =
-            rw eps
-            (record {
-              in-d = λ v k. placed-h .below v (omega (arith, tables₁ .degrees));
-              in-x = λ v k. placed-h .below v (omega (arith, tables₁ .mixes));
-              enough = λ v. by-test (ltb v c)
-                  (λ k. omega (arith, degree-without pos v h (s .left) here, among-once v (pos h) (placed-h .apart v), tables₁ .degree-at v (ltb-true v c k)))
-                  (λ k. omega (arith, placed-h .below v (ltb-false v c k)));
-            })
-
         pub cells-under : Below c ps
         unfolding h
         cells-under = rw eps (placed-h .below)
 
         -- the hash has left them
-        module _ (narrow₂ wide₂ : List ℕ) (ed : narrow₂ ≡ lowered ps (set narrow (c + c + n) (getD narrow (c + t) 0)))
-            (ex : wide₂ ≡ stirred (getD wide (getD narrow (c + t) 0) 0) ps (set wide (c + n) (getD wide (getD narrow (c + t) 0) 0))) where
+        module _ (small : (v : ℕ) → getD narrow v 0 < 2 ^ 32) (narrow₂ wide₂ : List ℕ)
+            (ed : narrow₂ ≡ changed (plus 4294967295) ps (set narrow (c + c + n) (getD narrow (c + t) 0)))
+            (ex : wide₂ ≡ changed (bitXor (getD wide (getD narrow (c + t) 0) 0)) ps (set wide (c + n) (getD wide (getD narrow (c + t) 0) 0))) where
+          low : (v : ℕ) → v < c → getD narrow₁ v 0 < 2 ^ 32
+          unfolding narrow₁
+          low v l = omega (arith, small v, getD-set-other narrow (c + c + n) v (getD narrow (c + t) 0) 0 (λ z. omega arith))
+
           after : Tables pos c (without h (s .left)) narrow₂ wide₂
           unfolding h wide₁ narrow₁
-          after = rw (ed, ex, eps) (tables-remove pos c (s .left) narrow₁ wide₁ h placed-h here tables₁)
+          after = rw (ed, ex, eps) (tables-remove pos c (s .left) narrow₁ wide₁ h placed-h here low tables₁)
 
           narrow-kept : (v : ℕ) → c ≤ v → (v ≡ c + c + n → ⊥) → getD narrow₂ v 0 ≡ getD narrow v 0
           unfolding h
           narrow-kept v k z =
-              rw (ed, eps) (lowered-other (pos h) _ v (placed-h .below v k) ∙ getD-set-other narrow (c + c + n) v _ 0 z)
+              rw (ed, eps) (changed-other (plus 4294967295) (pos h) _ v (placed-h .below v k) ∙ getD-set-other narrow (c + c + n) v _ 0 z)
 
           wide-kept : (v : ℕ) → c ≤ v → (v ≡ c + n → ⊥) → getD wide₂ v 0 ≡ getD wide v 0
           unfolding h
           wide-kept v k z =
-              rw (ex, eps) (stirred-other h (pos h) _ v (placed-h .below v k) ∙ getD-set-other wide (c + n) v _ 0 z)
+              rw (ex, eps) (changed-other (bitXor h) (pos h) _ v (placed-h .below v k) ∙ getD-set-other wide (c + n) v _ 0 z)
 
           narrow-new : getD narrow₂ (c + c + n) 0 ≡ getD narrow (c + t) 0
           unfolding h
           narrow-new =
-              rw (ed, eps) (lowered-other (pos h) _ (c + c + n) (placed-h .below (c + c + n) (omega arith)) ∙ getD-set-same narrow (c + c + n) _ 0 (omega (arith, room-peel, R .narrow-room)))
+              rw (ed, eps) (changed-other (plus 4294967295) (pos h) _ (c + c + n) (placed-h .below (c + c + n) (omega arith)) ∙ getD-set-same narrow (c + c + n) _ 0 (omega (arith, room-peel, R .narrow-room)))
 
           wide-new : getD wide₂ (c + n) 0 ≡ getD wide (getD narrow (c + t) 0) 0
           unfolding h
           wide-new =
-              rw (ex, eps) (stirred-other h (pos h) _ (c + n) (placed-h .below (c + n) (omega arith)) ∙ getD-set-same wide (c + n) _ 0 (omega (arith, room-peel, R .wide-room)))
+              rw (ex, eps) (changed-other (bitXor h) (pos h) _ (c + n) (placed-h .below (c + n) (omega arith)) ∙ getD-set-same wide (c + n) _ 0 (omega (arith, room-peel, R .wide-room)))
 
           pub narrow-length : length narrow₂ ≡ length narrow
-          narrow-length = ap length ed ∙ length-lowered ps _ ∙ length-set narrow (c + c + n) _
+          narrow-length = ap length ed ∙ length-changed (plus 4294967295) ps _ ∙ length-set narrow (c + c + n) _
 
           pub wide-length : length wide₂ ≡ length wide
-          wide-length = ap length ex ∙ length-stirred _ ps _ ∙ length-set wide (c + n) _
+          wide-length = ap length ex ∙ length-changed (bitXor (getD wide (getD narrow (c + t) 0) 0)) ps _ ∙ length-set wide (c + n) _
 
           queue-kept : stack c t narrow₂ ≡ stack c t narrow
           queue-kept = stack-same c t narrow narrow₂ (λ i l. narrow-kept (c + i) (omega arith) (λ z. omega (arith, top-le (suc t) n R)))
@@ -284,7 +277,7 @@ ready-start pos c hs wide narrow narrow' top placed t Q l a b =
       placed = placed;
       sound = sound-start pos c hs;
       tables = tables-same pos c hs narrow wide narrow' wide t l refl (Q .degrees) (λ v k. refl);
-      waiting = sym (Q .waiting ∙ noted-queued pos c hs narrow wide t (rising 0 c) (λ v m. count-rising c 0 v .2 (omega arith)) []);
+      waiting = sym (Q .waiting ∙ noted-queued pos c hs narrow wide t (rising 0 c) (λ v m. rising-not 0 c v (omega arith)) []);
       peeled = sym (peels-none c wide narrow');
       wide-room = a;
       narrow-room = omega arith;
@@ -306,8 +299,7 @@ cells-below pos c (suc n) wide narrow hs ok g i h =
     (λ t. cells-below pos c n wide narrow _ (λ j k. ok j (omega arith)) (g' .2) i (ltb-true i n t))
     (λ t.
     let e : i ≡ n = omega (arith, ltb-false i n t) in
-    rw e (by-test (ltb (getD narrow (c + c + n) 0) c) (λ u. ltb-true _ _ u)
-    (λ u. absurd (omega (arith, ok n (omega arith) .below (getD narrow (c + c + n) 0) (ltb-false _ c u), ltb-true 0 (count (getD narrow (c + c + n) 0) (pos (getD wide (c + n) 0))) (g' .0))))))
+    rw e (count-below c (getD narrow (c + c + n) 0) (pos (getD wide (c + n) 0)) (ok n (omega arith) .below) (ltb-true 0 _ (g' .0))))
 
 peels-hash : (c n : ℕ) (wide narrow : List ℕ) (i : ℕ) → i < n → 1 ≤ count (getD wide (c + i) 0) (hashes (peels c n wide narrow))
 peels-hash c zero wide narrow i h = absurd (not-suc-le-zero h)

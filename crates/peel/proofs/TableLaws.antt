@@ -1,113 +1,87 @@
 -- Laws of the workspace: a hash added or taken away, cells noted, and the stacks. Assumes nothing.
 use mathlib.Core.Path.{_≡_, refl, sym, ap, ap₂, _∙_}
 use mathlib.Core.Bool.{Bool, true, false}
-use mathlib.Core.List.{List, [], _∷_}
+use mathlib.Core.List.{List, [], _∷_, _++_}
 use Prim.Native.Nat.{ℕ, zero, suc, _+_, _-_, _<_, _≤_, _^_}
 use native.Mathlib.Nat.{not-suc-le-zero, sub-zero}
 use native.Mathlib.Omega.{arith}
 use native.Mathlib.Numerals.{add-one}
-use borrow.Author.Tests.{eqb-true, eqb-false, eq-eqb, ne-eqb, ltb-true, ltb-false}
-use lib.Dec.{eqb, ltb}
+use borrow.Author.Tests.{eqb-true, eqb-false, eq-eqb, ne-eqb}
+use lib.Dec.{eqb}
 use lib.Bits.{bitXor, xor-zero-r, xor-comm}
-use lib.ListN.{length, getD, set, replicate, drop, drop-of-length-le, length-set, length-replicate, getD-replicate}
-use lib.Seq.{getD-set-same, getD-set-other, drop-cons, ext-getD}
-use Rattle.fuse.specs.Asking.{graphHash}
+use lib.ListN.{length, getD, set, replicate, take, drop, drop-of-length-le, length-set, length-drop, length-replicate, getD-replicate, List·getD-append}
+use lib.Seq.{getD-set-same, getD-set-other, length-take-le, drop-cons}
+use Rattle.laws.specs.Cases.{by-test}
 use Rattle.laws.specs.Count.{one, count, among, keep, without, rising}
-use Rattle.laws.proofs.XorLaws.{xor-swap, xor-back}
-use Rattle.laws.proofs.CountLaws.{count-nil, count-cons, count-here, count-other, by-test, without-cons}
+use Rattle.laws.specs.Lists.{drop-next}
+use Rattle.laws.specs.XorLaws.{xor-swap, xor-back}
+use Rattle.laws.specs.CountLaws.{count-nil, count-cons, count-here, count-other, count-at, count-below, among-once, without-cons, rising-cons, rising-none}
 use Rattle.peel.specs.Sound.{Placed}
-use Rattle.peel.specs.Peel.{mixed, lying, degree, queued, next}
-use Rattle.peel.specs.Table.{xors, stack, raised, lowered, stirred, noted, Queued, Tables}
-use Rattle.peel.specs.Loops.{Below, Room, Spare}
-use Rattle.peel.proofs.PeelLaws.{among-once, lying-cons, lying-nil, degree-cons, degree-without, queued-cons, queued-nil, rising-cons, rising-none}
+use Rattle.peel.specs.Peel.{lying, degree, queued}
+use Rattle.peel.specs.Table.{xors, stack, changed, plus, noted, Queued, Tables}
+use Rattle.peel.specs.Loops.{Below}
+use Rattle.peel.proofs.PeelLaws.{lying-cons, lying-nil, degree-nil, degree-cons, degree-without, queued-cons, queued-nil}
 
 -- ---- the folds over cells
 
-pub raised-cons : (p : ℕ) (ps d : List ℕ) → raised (p ∷ ps) d ≡ raised ps (set d p (getD d p 0 + 1))
-unfolding raised
-raised-cons p ps d = refl
+-- the cells ps are all below c
+pub cell-below : (c : ℕ) (ps : List ℕ) → Below c ps → (i : ℕ) → i < length ps → getD ps i 0 < c
+cell-below c ps b i h = count-below c (getD ps i 0) ps b (count-at ps i h)
 
-pub raised-nil : (d : List ℕ) → raised [] d ≡ d
-unfolding raised
-raised-nil d = refl
+module _ (f : ℕ → ℕ) where
+  changed-cons : (p : ℕ) (ps d : List ℕ) → changed f (p ∷ ps) d ≡ changed f ps (set d p (f (getD d p 0)))
+  unfolding changed
+  changed-cons p ps d = refl
 
-pub lowered-cons : (p : ℕ) (ps d : List ℕ) → lowered (p ∷ ps) d ≡ lowered ps (set d p (getD d p 0 - 1))
-unfolding lowered
-lowered-cons p ps d = refl
+  changed-nil : (d : List ℕ) → changed f [] d ≡ d
+  unfolding changed
+  changed-nil d = refl
 
-pub lowered-nil : (d : List ℕ) → lowered [] d ≡ d
-unfolding lowered
-lowered-nil d = refl
+  pub length-changed : (ps d : List ℕ) → length (changed f ps d) ≡ length d
+  length-changed [] d = ap length (changed-nil d)
+  length-changed (p ∷ ps) d = ap length (changed-cons p ps d) ∙ length-changed ps _ ∙ length-set d p _
 
-pub stirred-cons : (h p : ℕ) (ps x : List ℕ) → stirred h (p ∷ ps) x ≡ stirred h ps (set x p (bitXor (getD x p 0) h))
-unfolding stirred
-stirred-cons h p ps x = refl
+  -- a cell that is not named is as it was
+  pub changed-other : (ps d : List ℕ) (v : ℕ) → count v ps ≡ 0 → getD (changed f ps d) v 0 ≡ getD d v 0
+  changed-other [] d v z = rw changed-nil refl
+  changed-other (p ∷ ps) d v z =
+      by-test (eqb v p)
+      (λ e. absurd (omega (arith, count-cons v p ps, ap one e)))
+      (λ e. rw changed-cons (changed-other ps _ v (omega (arith, count-cons v p ps)) ∙ getD-set-other d p v _ 0 (eqb-false v p e)))
 
-pub stirred-nil : (h : ℕ) (x : List ℕ) → stirred h [] x ≡ x
-unfolding stirred
-stirred-nil h x = refl
+  -- one that is named once is changed
+  pub changed-at : (ps d : List ℕ) (v : ℕ) → v < length d → count v ps ≡ 1 → getD (changed f ps d) v 0 ≡ f (getD d v 0)
+  changed-at [] d v l z = absurd (omega (arith, count-nil v))
+  changed-at (p ∷ ps) d v l z =
+      by-test (eqb v p)
+      (λ e.
+      let s : v ≡ p = eqb-true v p e in
+      rw changed-cons (changed-other ps _ v (omega (arith, count-cons v p ps, ap one e)) ∙ rw s (getD-set-same d p _ 0 (rw s at l))))
+      (λ e.
+      rw changed-cons
+      (changed-at ps _ v (rw length-set l) (omega (arith, count-cons v p ps, ap one e)) ∙ ap f (getD-set-other d p v _ 0 (eqb-false v p e))))
 
-pub length-raised : (ps d : List ℕ) → length (raised ps d) ≡ length d
-length-raised [] d = ap length (raised-nil d)
-length-raised (p ∷ ps) d = ap length (raised-cons p ps d) ∙ length-raised ps _ ∙ length-set d p _
+  -- the first i of the cells are changed
+  pub record Changing (ps d₀ : List ℕ) (i : ℕ) (d : List ℕ) : Type 0 where
+    pub size : length d ≡ length d₀
+    pub whole-is : changed f (drop i ps) d ≡ changed f ps d₀
 
-pub length-lowered : (ps d : List ℕ) → length (lowered ps d) ≡ length d
-length-lowered [] d = ap length (lowered-nil d)
-length-lowered (p ∷ ps) d = ap length (lowered-cons p ps d) ∙ length-lowered ps _ ∙ length-set d p _
+  pub changing-start : (ps d : List ℕ) → Changing ps d 0 d
+  changing-start ps d = record { size = refl; whole-is = refl }
 
-pub length-stirred : (h : ℕ) (ps x : List ℕ) → length (stirred h ps x) ≡ length x
-length-stirred h [] x = ap length (stirred-nil h x)
-length-stirred h (p ∷ ps) x = ap length (stirred-cons h p ps x) ∙ length-stirred h ps _ ∙ length-set x p _
+  -- the next cell lies inside
+  pub changing-in : (ps d₀ : List ℕ) (i : ℕ) (d : List ℕ) → i < length ps → Below (length d₀) ps → Changing ps d₀ i d → getD ps i 0 < length d
+  changing-in ps d₀ i d hi b A = omega (arith, A .size, cell-below (length d₀) ps b i hi)
 
--- each cell is raised as often as it is named
-pub raised-at : (ps d : List ℕ) (v : ℕ) → v < length d → getD (raised ps d) v 0 ≡ getD d v 0 + count v ps
-raised-at [] d v h = rw (raised-nil, count-nil) (omega arith)
-raised-at (p ∷ ps) d v h =
-    let i : getD (raised ps (set d p (getD d p 0 + 1))) v 0 ≡ getD (set d p (getD d p 0 + 1)) v 0 + count v ps = raised-at ps _ v (rw length-set h) in
-    rw raised-cons (by-test (eqb v p)
-    (λ e.
-    let s : v ≡ p = eqb-true v p e in
-    let k : getD (set d p (getD d p 0 + 1)) v 0 ≡ getD d v 0 + 1 = rw s (getD-set-same d p _ 0 (rw s at h)) in
-    omega (arith, i, k, count-cons v p ps, ap one e))
-    (λ e. omega (arith, i, getD-set-other d p v (getD d p 0 + 1) 0 (eqb-false v p e), count-cons v p ps, ap one e)))
+  pub changing-turn : (ps d₀ : List ℕ) (i : ℕ) (d : List ℕ) → i < length ps → Changing ps d₀ i d → Changing ps d₀ (i + 1) (set d (getD ps i 0) (f (getD d (getD ps i 0) 0)))
+  changing-turn ps d₀ i d hi A =
+      record {
+        size = length-set d (getD ps i 0) _ ∙ A .size;
+        whole-is = sym (changed-cons _ _ d) ∙ ap (λ (l : List ℕ). changed f l d) (sym (drop-next ps i hi)) ∙ A .whole-is;
+      }
 
-pub lowered-at : (ps d : List ℕ) (v : ℕ) → v < length d → getD (lowered ps d) v 0 ≡ getD d v 0 - count v ps
-lowered-at [] d v h = rw (lowered-nil, count-nil) (omega arith)
-lowered-at (p ∷ ps) d v h =
-    let i : getD (lowered ps (set d p (getD d p 0 - 1))) v 0 ≡ getD (set d p (getD d p 0 - 1)) v 0 - count v ps = lowered-at ps _ v (rw length-set h) in
-    rw lowered-cons (by-test (eqb v p)
-    (λ e.
-    let s : v ≡ p = eqb-true v p e in
-    let k : getD (set d p (getD d p 0 - 1)) v 0 ≡ getD d v 0 - 1 = rw s (getD-set-same d p _ 0 (rw s at h)) in
-    omega (arith, i, k, count-cons v p ps, ap one e))
-    (λ e. omega (arith, i, getD-set-other d p v (getD d p 0 - 1) 0 (eqb-false v p e), count-cons v p ps, ap one e)))
-
--- a cell that is not named keeps its xor; one that is named once has h xored in
-pub stirred-other : (h : ℕ) (ps x : List ℕ) (v : ℕ) → count v ps ≡ 0 → getD (stirred h ps x) v 0 ≡ getD x v 0
-stirred-other h [] x v z = rw stirred-nil refl
-stirred-other h (p ∷ ps) x v z =
-    by-test (eqb v p)
-    (λ e. absurd (omega (arith, count-cons v p ps, ap one e)))
-    (λ e. rw stirred-cons (stirred-other h ps _ v (omega (arith, count-cons v p ps)) ∙ getD-set-other x p v _ 0 (eqb-false v p e)))
-
-pub stirred-at : (h : ℕ) (ps x : List ℕ) (v : ℕ) → v < length x → count v ps ≡ 1 → getD (stirred h ps x) v 0 ≡ bitXor (getD x v 0) h
-stirred-at h [] x v l z = omega (arith, count-nil v)
-stirred-at h (p ∷ ps) x v l z =
-    by-test (eqb v p)
-    (λ e.
-    let s : v ≡ p = eqb-true v p e in
-    rw stirred-cons (stirred-other h ps _ v (omega (arith, count-cons v p ps, ap one e)) ∙ rw s (getD-set-same x p _ 0 (rw s at l))))
-    (λ e.
-    rw stirred-cons
-    (stirred-at h ps _ v (rw length-set l) (omega (arith, count-cons v p ps, ap one e)) ∙ ap (λ (y : ℕ). bitXor y h) (getD-set-other x p v _ 0 (eqb-false v p e))))
-
--- a cell that is not named keeps its degree
-pub lowered-other : (ps d : List ℕ) (v : ℕ) → count v ps ≡ 0 → getD (lowered ps d) v 0 ≡ getD d v 0
-lowered-other [] d v z = rw lowered-nil refl
-lowered-other (p ∷ ps) d v z =
-    by-test (eqb v p)
-    (λ e. absurd (omega (arith, count-cons v p ps, ap one e)))
-    (λ e. rw lowered-cons (lowered-other ps _ v (omega (arith, count-cons v p ps)) ∙ getD-set-other d p v _ 0 (eqb-false v p e)))
+  pub changing-end : (ps d₀ : List ℕ) (i : ℕ) (d : List ℕ) → length ps ≤ i → Changing ps d₀ i d → d ≡ changed f ps d₀
+  changing-end ps d₀ i d hi A = let n : drop i ps ≡ [] = drop-of-length-le ps hi in rw (n, changed-nil) at (A .whole-is)
 
 -- ---- the stacks
 
@@ -185,7 +159,7 @@ length-keep true p q = omega arith
 length-keep false p q = omega arith
 
 below-head : (c p : ℕ) (ps : List ℕ) → Below c (p ∷ ps) → p < c
-below-head c p ps b = by-test (ltb p c) (λ e. ltb-true p c e) (λ e. absurd (omega (arith, b p (ltb-false p c e), count-here p ps)))
+below-head c p ps b = count-below c p (p ∷ ps) b (omega (arith, count-here p ps))
 
 -- noting cells takes none off the queue
 pub noted-longer : (d ps q : List ℕ) → length q ≤ length (noted d ps q)
@@ -290,7 +264,7 @@ module _ (pos : ℕ → List ℕ) where
       record {
         degrees = ld;
         mixes = lx;
-        degree-at = λ v h. zd v h ∙ sym (ap length (lying-nil pos v));
+        degree-at = λ v h. zd v h ∙ sym (degree-nil pos v);
         xor-at = λ v h. zx v h ∙ sym (ap xors (lying-nil pos v) ∙ xors-nil);
       }
 
@@ -305,38 +279,54 @@ module _ (pos : ℕ → List ℕ) where
         xor-at = λ v h. ex v h ∙ t .xor-at v h;
       }
 
+  pub degree-le : (v : ℕ) (hs : List ℕ) → degree pos v hs ≤ length hs
+  degree-le v [] = omega (arith, degree-nil pos v)
+  degree-le v (h ∷ hs) =
+      by-test (among v (pos h)) (λ e. omega (arith, degree-cons pos v h hs, ap one e, degree-le v hs)) (λ e. omega (arith, degree-cons pos v h hs, ap one e, degree-le v hs))
+
   -- a hash added
-  pub tables-add : (c : ℕ) (hs d x : List ℕ) (h : ℕ) → Placed c pos h → Tables pos c hs d x → Tables pos c (h ∷ hs) (raised (pos h) d) (stirred h (pos h) x)
-  tables-add c hs d x h ok t =
+  pub tables-add : (c : ℕ) (hs d x : List ℕ) (h : ℕ) → Placed c pos h → length hs + 1 < 2 ^ 32 → Tables pos c hs d x
+      → Tables pos c (h ∷ hs) (changed (plus 1) (pos h) d) (changed (bitXor h) (pos h) x)
+  tables-add c hs d x h ok n t =
       record {
-        degrees = omega (arith, length-raised (pos h) d, t .degrees);
-        mixes = omega (arith, length-stirred h (pos h) x, t .mixes);
-        degree-at = λ v l.
-            omega (arith, raised-at (pos h) d v (omega (arith, t .degrees)), t .degree-at v l, degree-cons pos v h hs, among-once v (pos h) (ok .apart v));
+        degrees = omega (arith, length-changed (plus 1) (pos h) d, t .degrees);
+        mixes = omega (arith, length-changed (bitXor h) (pos h) x, t .mixes);
+        degree-at = λ v l. by-test (among v (pos h))
+            (λ a.
+            let k : count v (pos h) ≡ 1 = omega (arith, among-once v (pos h) (ok .apart v), ap one a) in
+            omega (arith, changed-at (plus 1) (pos h) d v (omega (arith, t .degrees)) k, t .degree-at v l, degree-le v hs, degree-cons pos v h hs, ap one a))
+            (λ a.
+            let k : count v (pos h) ≡ 0 = omega (arith, among-once v (pos h) (ok .apart v), ap one a) in
+            omega (arith, changed-other (plus 1) (pos h) d v k, t .degree-at v l, degree-cons pos v h hs, ap one a));
         xor-at = λ v l. by-test (among v (pos h))
             (λ a.
-            stirred-at h (pos h) x v (omega (arith, t .mixes)) (omega (arith, among-once v (pos h) (ok .apart v), ap one a))
-            ∙ xor-comm _ h ∙ ap (bitXor h) (t .xor-at v l) ∙ sym (xors-on v h hs a))
+            changed-at (bitXor h) (pos h) x v (omega (arith, t .mixes)) (omega (arith, among-once v (pos h) (ok .apart v), ap one a))
+            ∙ ap (bitXor h) (t .xor-at v l) ∙ sym (xors-on v h hs a))
             (λ a.
-            stirred-other h (pos h) x v (omega (arith, among-once v (pos h) (ok .apart v), ap one a))
+            changed-other (bitXor h) (pos h) x v (omega (arith, among-once v (pos h) (ok .apart v), ap one a))
             ∙ t .xor-at v l ∙ sym (xors-off v h hs a));
       }
 
   -- a hash taken away
-  pub tables-remove : (c : ℕ) (hs d x : List ℕ) (h : ℕ) → Placed c pos h → 1 ≤ count h hs → Tables pos c hs d x
-      → Tables pos c (without h hs) (lowered (pos h) d) (stirred h (pos h) x)
-  tables-remove c hs d x h ok k t =
+  pub tables-remove : (c : ℕ) (hs d x : List ℕ) (h : ℕ) → Placed c pos h → 1 ≤ count h hs → ((v : ℕ) → v < c → getD d v 0 < 2 ^ 32) → Tables pos c hs d x
+      → Tables pos c (without h hs) (changed (plus 4294967295) (pos h) d) (changed (bitXor h) (pos h) x)
+  tables-remove c hs d x h ok k small t =
       record {
-        degrees = omega (arith, length-lowered (pos h) d, t .degrees);
-        mixes = omega (arith, length-stirred h (pos h) x, t .mixes);
-        degree-at = λ v l.
-            omega (arith, lowered-at (pos h) d v (omega (arith, t .degrees)), t .degree-at v l, degree-without pos v h hs k, among-once v (pos h) (ok .apart v));
+        degrees = omega (arith, length-changed (plus 4294967295) (pos h) d, t .degrees);
+        mixes = omega (arith, length-changed (bitXor h) (pos h) x, t .mixes);
+        degree-at = λ v l. by-test (among v (pos h))
+            (λ a.
+            let m : count v (pos h) ≡ 1 = omega (arith, among-once v (pos h) (ok .apart v), ap one a) in
+            omega (arith, changed-at (plus 4294967295) (pos h) d v (omega (arith, t .degrees)) m, t .degree-at v l, small v l, degree-without pos v h hs k, ap one a))
+            (λ a.
+            let m : count v (pos h) ≡ 0 = omega (arith, among-once v (pos h) (ok .apart v), ap one a) in
+            omega (arith, changed-other (plus 4294967295) (pos h) d v m, t .degree-at v l, degree-without pos v h hs k, ap one a));
         xor-at = λ v l. by-test (among v (pos h))
             (λ a.
-            stirred-at h (pos h) x v (omega (arith, t .mixes)) (omega (arith, among-once v (pos h) (ok .apart v), ap one a))
-            ∙ ap (λ (y : ℕ). bitXor y h) (t .xor-at v l ∙ sym (xors-without v h hs k) ∙ xors-on v h _ a ∙ xor-comm h _) ∙ xor-back _ h)
+            changed-at (bitXor h) (pos h) x v (omega (arith, t .mixes)) (omega (arith, among-once v (pos h) (ok .apart v), ap one a))
+            ∙ xor-comm h _ ∙ ap (λ (y : ℕ). bitXor y h) (t .xor-at v l ∙ sym (xors-without v h hs k) ∙ xors-on v h _ a ∙ xor-comm h _) ∙ xor-back _ h)
             (λ a.
-            stirred-other h (pos h) x v (omega (arith, among-once v (pos h) (ok .apart v), ap one a))
+            changed-other (bitXor h) (pos h) x v (omega (arith, among-once v (pos h) (ok .apart v), ap one a))
             ∙ t .xor-at v l ∙ sym (xors-without v h hs k) ∙ xors-off v h _ a);
       }
 
@@ -347,159 +337,26 @@ module _ (pos : ℕ → List ℕ) where
       noted-cons d p ps q ∙ ap (λ (n : ℕ). noted d ps (keep (eqb n 1) p q)) (t .degree-at p (below-head c p ps b))
       ∙ noted-queued c hs d x t ps (λ v k. omega (arith, b v k, count-cons v p ps)) _ ∙ sym (queued-cons pos hs p ps q)
 
--- ---- the loops over a hash's cells
-
--- a number that stands in a list
-pub count-getD : (ps : List ℕ) (i : ℕ) → i < length ps → 1 ≤ count (getD ps i 0) ps
-count-getD [] i h = absurd (not-suc-le-zero h)
-count-getD (p ∷ ps) zero h = omega (arith, count-here p ps)
-count-getD (p ∷ ps) (suc i) h = omega (arith, count-cons (getD ps i 0) p ps, count-getD ps i (omega arith))
-
--- the cells ps are all below c
-pub cell-below : (c : ℕ) (ps : List ℕ) → Below c ps → (i : ℕ) → i < length ps → getD ps i 0 < c
-cell-below c ps b i h =
-    by-test (ltb (getD ps i 0) c) (λ t. ltb-true (getD ps i 0) c t)
-    (λ t. absurd (omega (arith, b (getD ps i 0) (ltb-false (getD ps i 0) c t), count-getD ps i h)))
-
--- what is left of the cells: one fewer
-count-drop : (ps : List ℕ) (i v : ℕ) → i < length ps → count v (drop i ps) ≡ one (eqb v (getD ps i 0)) + count v (drop (i + 1) ps)
-count-drop ps i v h = rw (add-one i) (ap (count v) (drop-cons ps i 0 h) ∙ count-cons v (getD ps i 0) (drop (suc i) ps))
-
--- h has joined the first i of the cells ps
-pub record Adding (h : ℕ) (ps d₀ x₀ : List ℕ) (i : ℕ) (d x : List ℕ) : Type 0 where
-  pub upto : i ≤ length ps
-  pub size-d : length d ≡ length d₀
-  pub size-x : length x ≡ length x₀
-  pub fits : (v : ℕ) → 1 ≤ count v (drop i ps) → getD d v 0 + count v (drop i ps) < 2 ^ 32
-  pub d-is : raised (drop i ps) d ≡ raised ps d₀
-  pub x-is : stirred h (drop i ps) x ≡ stirred h ps x₀
-
-pub adding-turn : (h : ℕ) (ps d₀ x₀ : List ℕ) (i : ℕ) (d x : List ℕ) → i < length ps → Below (length d₀) ps → Adding h ps d₀ x₀ i d x
-    → Adding h ps d₀ x₀ (i + 1) (set d (getD ps i 0) (getD d (getD ps i 0) 0 + 1)) (set x (getD ps i 0) (bitXor (getD x (getD ps i 0) 0) h))
-adding-turn h ps d₀ x₀ i d x hi b A =
-    let hp : getD ps i 0 < length d₀ = cell-below (length d₀) ps b i hi in
-    record {
-      upto = omega arith;
-      size-d = length-set d (getD ps i 0) _ ∙ A .size-d;
-      size-x = length-set x (getD ps i 0) _ ∙ A .size-x;
-      fits = λ v z. by-test (eqb v (getD ps i 0))
-          (λ e.
-          let s : v ≡ getD ps i 0 = eqb-true _ _ e in
-          let k : getD (set d (getD ps i 0) (getD d (getD ps i 0) 0 + 1)) v 0 ≡ getD d v 0 + 1 = rw s (getD-set-same d (getD ps i 0) _ 0 (omega (arith, A .size-d))) in
-          omega (arith, A .fits v (omega (arith, count-drop ps i v hi)), count-drop ps i v hi, ap one e))
-          (λ e. omega (arith, A .fits v (omega (arith, count-drop ps i v hi)), count-drop ps i v hi, ap one e, getD-set-other d (getD ps i 0) v (getD d (getD ps i 0) 0 + 1) 0 (eqb-false _ _ e)));
-      d-is = rw (add-one i) (sym (raised-cons _ _ d) ∙ ap (λ (l : List ℕ). raised l d) (sym (drop-cons ps i 0 hi)) ∙ A .d-is);
-      x-is = rw (add-one i) (sym (stirred-cons h _ _ x) ∙ ap (λ (l : List ℕ). stirred h l x) (sym (drop-cons ps i 0 hi)) ∙ A .x-is);
-    }
-
--- h has left the first i of the cells ps
-pub record Removing (h : ℕ) (ps d₀ x₀ : List ℕ) (i : ℕ) (d x : List ℕ) : Type 0 where
-  pub upto : i ≤ length ps
-  pub size-d : length d ≡ length d₀
-  pub size-x : length x ≡ length x₀
-  pub enough : (v : ℕ) → count v (drop i ps) ≤ getD d v 0
-  pub d-is : lowered (drop i ps) d ≡ lowered ps d₀
-  pub x-is : stirred h (drop i ps) x ≡ stirred h ps x₀
-
-pub removing-turn : (h : ℕ) (ps d₀ x₀ : List ℕ) (i : ℕ) (d x : List ℕ) → i < length ps → Below (length d₀) ps → Removing h ps d₀ x₀ i d x
-    → Removing h ps d₀ x₀ (i + 1) (set d (getD ps i 0) (getD d (getD ps i 0) 0 - 1)) (set x (getD ps i 0) (bitXor (getD x (getD ps i 0) 0) h))
-removing-turn h ps d₀ x₀ i d x hi b A =
-    let hp : getD ps i 0 < length d₀ = cell-below (length d₀) ps b i hi in
-    record {
-      upto = omega arith;
-      size-d = length-set d (getD ps i 0) _ ∙ A .size-d;
-      size-x = length-set x (getD ps i 0) _ ∙ A .size-x;
-      enough = λ v. by-test (eqb v (getD ps i 0))
-          (λ e.
-          let s : v ≡ getD ps i 0 = eqb-true _ _ e in
-          let k : getD (set d (getD ps i 0) (getD d (getD ps i 0) 0 - 1)) v 0 ≡ getD d v 0 - 1 = rw s (getD-set-same d (getD ps i 0) _ 0 (omega (arith, A .size-d))) in
-          omega (arith, A .enough v, count-drop ps i v hi, ap one e))
-          (λ e. omega (arith, A .enough v, count-drop ps i v hi, ap one e, getD-set-other d (getD ps i 0) v (getD d (getD ps i 0) 0 - 1) 0 (eqb-false _ _ e)));
-      d-is = rw (add-one i) (sym (lowered-cons _ _ d) ∙ ap (λ (l : List ℕ). lowered l d) (sym (drop-cons ps i 0 hi)) ∙ A .d-is);
-      x-is = rw (add-one i) (sym (stirred-cons h _ _ x) ∙ ap (λ (l : List ℕ). stirred h l x) (sym (drop-cons ps i 0 hi)) ∙ A .x-is);
-    }
-
--- the next cell can be left
-pub removing-ready : (h : ℕ) (ps d₀ x₀ : List ℕ) (i : ℕ) (d x : List ℕ) → i < length ps → Removing h ps d₀ x₀ i d x → 1 ≤ getD d (getD ps i 0) 0
-removing-ready h ps d₀ x₀ i d x hi A =
-    omega (arith, A .enough (getD ps i 0), count-drop ps i (getD ps i 0) hi, ap one (eq-eqb (getD ps i 0) (getD ps i 0) refl))
-
-pub adding-ready : (h : ℕ) (ps d₀ x₀ : List ℕ) (i : ℕ) (d x : List ℕ) → i < length ps → Adding h ps d₀ x₀ i d x → getD d (getD ps i 0) 0 + 1 < 2 ^ 32
-adding-ready h ps d₀ x₀ i d x hi A =
-    omega (arith, A .fits (getD ps i 0) (omega (arith, count-drop ps i (getD ps i 0) hi, ap one (eq-eqb (getD ps i 0) (getD ps i 0) refl))), count-drop ps i (getD ps i 0) hi, ap one (eq-eqb (getD ps i 0) (getD ps i 0) refl))
-
--- at the end
-pub adding-end : (h : ℕ) (ps d₀ x₀ : List ℕ) (i : ℕ) (d x : List ℕ) → length ps ≤ i → Adding h ps d₀ x₀ i d x → (d ≡ raised ps d₀) × (x ≡ stirred h ps x₀)
-adding-end h ps d₀ x₀ i d x hi A =
-    let n : drop i ps ≡ [] = drop-of-length-le ps hi in
-    (rw (n, raised-nil) at (A .d-is), rw (n, stirred-nil) at (A .x-is))
-
-pub removing-end : (h : ℕ) (ps d₀ x₀ : List ℕ) (i : ℕ) (d x : List ℕ) → length ps ≤ i → Removing h ps d₀ x₀ i d x → (d ≡ lowered ps d₀) × (x ≡ stirred h ps x₀)
-removing-end h ps d₀ x₀ i d x hi A =
-    let n : drop i ps ≡ [] = drop-of-length-le ps hi in
-    (rw (n, lowered-nil) at (A .d-is), rw (n, stirred-nil) at (A .x-is))
-
-pub adding-start : (h : ℕ) (ps d x : List ℕ) → Room ps d x → Adding h ps d x 0 d x
-adding-start h ps d x r = record { upto = omega arith; size-d = refl; size-x = refl; fits = r .fits; d-is = refl; x-is = refl }
-
-pub removing-start : (h : ℕ) (ps d x : List ℕ) → Spare ps d x → Removing h ps d x 0 d x
-removing-start h ps d x r = record { upto = omega arith; size-d = refl; size-x = refl; enough = r .enough; d-is = refl; x-is = refl }
-
 -- ---- loading
 
-pub degree-le : (pos : ℕ → List ℕ) (v : ℕ) (hs : List ℕ) → degree pos v hs ≤ length hs
-degree-le pos v [] = omega (arith, ap length (lying-nil pos v))
-degree-le pos v (h ∷ hs) =
-    by-test (among v (pos h)) (λ e. omega (arith, degree-cons pos v h hs, ap one e, degree-le pos v hs)) (λ e. omega (arith, degree-cons pos v h hs, ap one e, degree-le pos v hs))
-
--- one more hash does not overflow a degree
-pub tables-fit : (pos : ℕ → List ℕ) (c : ℕ) (hs d x : List ℕ) (h : ℕ) (ps : List ℕ) → ps ≡ pos h → Placed c pos h → Tables pos c hs d x → length hs + 1 < 2 ^ 32
-    → Room ps d x
-tables-fit pos c hs d x h ps e ok t n =
-    rw e
-    (record {
-      in-d = λ v k. ok .below v (omega (arith, t .degrees));
-      in-x = λ v k. ok .below v (omega (arith, t .mixes));
-      fits = λ v z. by-test (ltb v c)
-          (λ e. omega (arith, t .degree-at v (ltb-true v c e), degree-le pos v hs, ok .apart v))
-          (λ e. absurd (omega (arith, ok .below v (ltb-false v c e))));
-    })
+-- the first c places of a list were cleared
+pub cleared : (c : ℕ) (xs front : List ℕ) → front ≡ replicate (length (take c xs)) 0 → c ≤ length xs → (v : ℕ) → v < c → getD (front ++ drop c xs) v 0 ≡ 0
+cleared c xs front e l v h =
+    let k = length-take-le c xs l in
+    let n : v < length front = omega (arith, ap length e, length-replicate {A = ℕ} (length (take c xs)) 0) in
+    List·getD-append front (drop c xs) 0 v n ∙ ap (λ (z : List ℕ). getD z v 0) e ∙ getD-replicate (length (take c xs)) v 0 0 (omega arith)
 
 -- one turn of loading: the hash before the i-th place is added
-pub tables-load : (pos : ℕ → List ℕ) (c : ℕ) (hs d x d' x' ps : List ℕ) (h i : ℕ) → 0 < i → i ≤ length hs → h ≡ getD hs (i - 1) 0 → ps ≡ pos h → Placed c pos h
-    → Tables pos c (drop i hs) d x → d' ≡ raised ps d → x' ≡ stirred h ps x → Tables pos c (drop (i - 1) hs) d' x'
-tables-load pos c hs d x d' x' ps h zero l k eh ep ok t ed ex = absurd (not-suc-le-zero l)
-tables-load pos c hs d x d' x' ps h (suc i) l k eh ep ok t ed ex =
+pub tables-load : (pos : ℕ → List ℕ) (c : ℕ) (hs d x d' x' ps : List ℕ) (h i : ℕ) → 0 < i → i ≤ length hs → h ≡ getD hs (i - 1) 0 → ps ≡ pos h → Placed c pos h → length hs < 2 ^ 32
+    → Tables pos c (drop i hs) d x → d' ≡ changed (plus 1) ps d → x' ≡ changed (bitXor h) ps x → Tables pos c (drop (i - 1) hs) d' x'
+tables-load pos c hs d x d' x' ps h zero l k eh ep ok n t ed ex = absurd (not-suc-le-zero l)
+tables-load pos c hs d x d' x' ps h (suc i) l k eh ep ok n t ed ex =
     let e : suc i - 1 ≡ i = omega arith in
     let next : drop (suc i - 1) hs ≡ h ∷ drop (suc i) hs =
     ap (λ (n : ℕ). drop n hs) e ∙ drop-cons hs i 0 (omega arith) ∙ ap (λ (z : ℕ). z ∷ drop (suc i) hs) (sym (eh ∙ ap (λ (n : ℕ). getD hs n 0) e)) in
-    rw (next, ed, ex, ep) (tables-add pos c (drop (suc i) hs) d x h ok t)
-
--- the mixed hashes, place by place
-pub mixed-at : (seed : ℕ) (hashes : List ℕ) (i : ℕ) → i < length hashes → getD (mixed seed hashes) i 0 ≡ graphHash seed (getD hashes i 0)
-mixed-at seed [] i h = absurd (not-suc-le-zero h)
-mixed-at seed (x ∷ hashes) zero h = refl
-mixed-at seed (x ∷ hashes) (suc i) h = mixed-at seed hashes i (omega arith)
-
--- ---- clearing
-
-pub zeros-more : (xs : List ℕ) (i : ℕ) → i < length xs → ((v : ℕ) → v < i → getD xs v 0 ≡ 0) → (v : ℕ) → v < i + 1 → getD (set xs i 0) v 0 ≡ 0
-zeros-more xs i h z v l =
-    by-test (eqb v i)
-    (λ e. ap (λ (w : ℕ). getD (set xs i 0) w 0) (eqb-true v i e) ∙ getD-set-same xs i 0 0 h)
-    (λ e.
-    let n : v ≡ i → ⊥ = eqb-false v i e in
-    getD-set-other xs i v 0 0 n ∙ z v (omega arith))
-
-pub zeros-all : (xs : List ℕ) (n i : ℕ) → length xs ≡ n → n ≤ i → ((v : ℕ) → v < i → getD xs v 0 ≡ 0) → xs ≡ replicate n 0
-zeros-all xs n i e l z =
-    ext-getD 0 xs (replicate n 0) (e ∙ sym (length-replicate n 0))
-    (λ v h. z v (omega arith) ∙ sym (getD-replicate n v 0 0 (omega arith)))
+    rw (next, ed, ex, ep) (tables-add pos c (drop (suc i) hs) d x h ok (omega (arith, length-drop (suc i) hs)) t)
 
 -- ---- what comes next
-
-pub drop-next : (ps : List ℕ) (i : ℕ) → i < length ps → drop i ps ≡ getD ps i 0 ∷ drop (i + 1) ps
-drop-next ps i h = rw (add-one i) (drop-cons ps i 0 h)
 
 pub rising-next : (p c : ℕ) → p < c → rising p (c - p) ≡ p ∷ rising (p + 1) (c - (p + 1))
 rising-next p c h =

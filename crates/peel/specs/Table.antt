@@ -3,7 +3,7 @@
 use mathlib.Core.Path.{_≡_}
 use mathlib.Core.Bool.{Bool, cond}
 use mathlib.Core.List.{List, [], _∷_}
-use Prim.Native.Nat.{ℕ, zero, suc, _+_, _-_, _<_, _≤_}
+use Prim.Native.Nat.{ℕ, zero, suc, _+_, _%_, _^_, _<_, _≤_}
 use lib.Dec.{eqb}
 use lib.Bits.{bitXor}
 use lib.ListN.{length, getD, set}
@@ -26,20 +26,14 @@ unfoldable pub peels : (c n : ℕ) (wide narrow : List ℕ) → List Peel
 peels c zero wide narrow = []
 peels c (suc n) wide narrow = record { hash = getD wide (c + n) 0; cell = getD narrow (c + c + n) 0 } ∷ peels c n wide narrow
 
--- one more at each of the cells
-unfoldable pub raised : List ℕ → List ℕ → List ℕ
-raised [] d = d
-raised (p ∷ ps) d = raised ps (set d p (getD d p 0 + 1))
+-- f at each of the cells
+unfoldable pub changed : (ℕ → ℕ) → List ℕ → List ℕ → List ℕ
+changed f [] d = d
+changed f (p ∷ ps) d = changed f ps (set d p (f (getD d p 0)))
 
--- one less
-unfoldable pub lowered : List ℕ → List ℕ → List ℕ
-lowered [] d = d
-lowered (p ∷ ps) d = lowered ps (set d p (getD d p 0 - 1))
-
--- h xored into each of the cells
-unfoldable pub stirred : ℕ → List ℕ → List ℕ → List ℕ
-stirred h [] x = x
-stirred h (p ∷ ps) x = stirred h ps (set x p (bitXor (getD x p 0) h))
+-- a degree with `by` more, wrapping: 2^32 − 1 more is one less
+abbrev pub plus : (by degree : ℕ) → ℕ
+plus by degree = (by + degree) % 2 ^ 32
 
 -- the queue after those of the cells that have 1 in d were put on it
 unfoldable pub noted : List ℕ → List ℕ → List ℕ → List ℕ

@@ -1,53 +1,32 @@
 // One attempt to build a filter, over lent workspace: wide [xors c | hashes peeled n], narrow [degrees c | queue c | cells peeled n].
 ghost use mathlib.Core.Path.{_≡_};
 ghost use mathlib.Core.List.{List, [], _∷_};
-ghost use Prim.Native.Nat.{ℕ, _+_, _-_, _*_, _%_, _<_, _≤_, _^_};
+ghost use Prim.Native.Nat.{ℕ, _+_, _<_, _≤_, _^_};
 ghost use lib.Dec.{eqb};
 ghost use lib.Bits.{bitXor};
-ghost use lib.ListN.{length, getD, set, replicate};
+ghost use lib.ListN.{length, getD};
 ghost use Rattle.laws.specs.Count.{keep, rising};
-ghost use Rattle.fuse.specs.Asking.{xorAt};
-ghost use Rattle.fuse.specs.Positions.{Usable, cellsIn, positionsOf};
+ghost use Rattle.fuse.specs.Positions.{positionsOf};
 ghost use Rattle.peel.specs.Peel.{Attempt, step, start, attempt, fill, mixed};
-ghost use Rattle.peel.specs.Table.{stack, noted, raised, lowered, stirred, peels, Queued, Tables, Ready, Tried};
-ghost use Rattle.peel.specs.Loops.{Room, Below, Spare, Whole};
+ghost use Rattle.peel.specs.Table.{stack, noted, changed, plus, peels, Queued, Tables, Ready, Tried};
+ghost use Rattle.peel.specs.Loops.{Below, Whole};
+use words::part;
 
-// The four cells of h, in position order.
-fn positions(segment: usize, count: usize, h: u64) -> [usize; 4]
-    requires { ⌜ Usable segment count ⌝ }
-    ensures { λ r. ⌜ r ≡ positionsOf segment count h ⌝ }
-{
-    let a = fuse::cell(segment, count, h, 0);
-    let b = fuse::cell(segment, count, h, 1);
-    let c = fuse::cell(segment, count, h, 2);
-    let d = fuse::cell(segment, count, h, 3);
-    [a, b, c, d]
-}
+// What a hash adds to the degrees of its cells, which wrap: 1 where it joins them, and 2^32 − 1, which is one less, where it leaves them.
+const JOINS: u32 = 1;
 
-// Hash h joins the cells.
-fn add(narrow: &mut [u32], wide: &mut [u64], cells: &[usize], h: u64)
-    requires { ⌜ Room (now (cells)) (now narrow) (now wide) ⌝ }
-    ensures { λ r. ⌜ (now (narrow .exit) ≡ raised (now (cells .entry)) (now (narrow .entry))) × (now (wide .exit) ≡ stirred h (now (cells .entry)) (now (wide .entry))) ⌝ }
+const LEAVES: u32 = u32::MAX;
+
+// Hash h joins or leaves the cells: their degrees change, and their xors.
+fn change(narrow: &mut [u32], wide: &mut [u64], cells: &[usize], h: u64, by: u32)
+    requires { ⌜ Below (length (now narrow)) (now cells) × Below (length (now wide)) (now cells) ⌝ }
+    ensures { λ r. ⌜ (now (narrow .exit) ≡ changed (plus by) (now (cells .entry)) (now (narrow .entry))) × (now (wide .exit) ≡ changed (bitXor h) (now (cells .entry)) (now (wide .entry))) ⌝ }
 {
     let mut i = 0;
     while i < cells.len() {
         let p = cells[i];
-        narrow[p] = narrow[p] + 1;
-        wide[p] = wide[p] ^ h;
-        i += 1;
-    }
-}
-
-// Hash h leaves the cells.
-fn remove(narrow: &mut [u32], wide: &mut [u64], cells: &[usize], h: u64)
-    requires { ⌜ Spare (now cells) (now narrow) (now wide) ⌝ }
-    ensures { λ r. ⌜ (now (narrow .exit) ≡ lowered (now (cells .entry)) (now (narrow .entry))) × (now (wide .exit) ≡ stirred h (now (cells .entry)) (now (wide .entry))) ⌝ }
-{
-    let mut i = 0;
-    while i < cells.len() {
-        let p = cells[i];
-        narrow[p] = narrow[p] - 1;
-        wide[p] = wide[p] ^ h;
+        narrow[p] = std::num::wrapping_add_u32(by, narrow[p]);
+        wide[p] = h ^ wide[p];
         i += 1;
     }
 }
@@ -96,41 +75,6 @@ fn queue_cells(narrow: &mut [u32], c: usize, top: usize, cells: &[usize]) -> usi
     t
 }
 
-// The first c places set to zero: the xors.
-fn clear_wide(wide: &mut [u64], c: usize)
-    requires { ⌜ c ≤ length (now wide) ⌝ }
-    ensures { λ r. ⌜ ((v : ℕ) → v < c → getD (now (wide .exit)) v 0 ≡ 0) ⌝ }
-{
-    let mut i = 0;
-    while i < c {
-        wide[i] = 0;
-        i += 1;
-    }
-}
-
-// The first c places set to zero: the degrees.
-fn clear_narrow(narrow: &mut [u32], c: usize)
-    requires { ⌜ c ≤ length (now narrow) ⌝ }
-    ensures { λ r. ⌜ ((v : ℕ) → v < c → getD (now (narrow .exit)) v 0 ≡ 0) ⌝ }
-{
-    let mut i = 0;
-    while i < c {
-        narrow[i] = 0;
-        i += 1;
-    }
-}
-
-// The cells set to zero.
-fn clear_cells(cells: &mut [u8])
-    ensures { λ r. ⌜ now (cells .exit) ≡ replicate (length (now (cells .entry))) 0 ⌝ }
-{
-    let mut i = 0;
-    while i < cells.len() {
-        cells[i] = 0;
-        i += 1;
-    }
-}
-
 // One attempt's sizes: the seed, the segment, the count, and the number of cells.
 pub struct Graph {
     pub seed: u64,
@@ -148,8 +92,8 @@ fn load(hashes: &[u64], wide: &mut [u64], narrow: &mut [u32], g: Graph)
     while 0 < i {
         i -= 1;
         let h = fuse::graph_hash(g.seed, hashes[i]);
-        let four = positions(g.segment, g.count, h);
-        add(narrow, wide, &four, h);
+        let four = fuse::positions(g.segment, g.count, h);
+        change(narrow, wide, &four, h, JOINS);
     }
 }
 
@@ -181,8 +125,8 @@ fn step(wide: &mut [u64], narrow: &mut [u32], g: Graph, at: Progress) -> Progres
     let h = wide[p];
     wide[c + n] = h;
     narrow[c + c + n] = e;
-    let four = positions(g.segment, g.count, h);
-    remove(narrow, wide, &four, h);
+    let four = fuse::positions(g.segment, g.count, h);
+    change(narrow, wide, &four, h, LEAVES);
     let u = queue_cells(narrow, c, t, &four);
     Progress {
         top: u,
@@ -229,8 +173,8 @@ fn peel_hashes(hashes: &[u64], wide: &mut [u64], narrow: &mut [u32], g: Graph) -
     ensures { λ r. ⌜ ((t : ℕ) × Ready (positionsOf (g .segment) (g .count)) (g .cells) (mixed (g .seed) (now (hashes .entry))) (attempt (positionsOf (g .segment) (g .count)) (g .cells) (mixed (g .seed) (now (hashes .entry)))) (now (wide .exit)) (now (narrow .exit)) t r) ⌝ }
 {
     let c = g.cells;
-    clear_wide(wide, c);
-    clear_narrow(narrow, c);
+    part::clear_u64(&mut wide[..c]);
+    part::clear_u32(&mut narrow[..c]);
     load(hashes, wide, narrow, g);
     let top = queue_ones(narrow, c);
     peel_all(wide, narrow, g, top)
@@ -251,7 +195,7 @@ pub fn attempt(
     if n < hashes.len() {
         return false;
     }
-    clear_cells(cells);
+    part::fill(cells, 0);
     fill(cells, wide, narrow, g, n);
     true
 }

@@ -1,6 +1,6 @@
 -- An idle filter is shut out: for one hash, whatever it is, no call that meets build's contract answers Positive, since the first attempt
 -- peels it. Assumes nothing.
-use Prim.Native.Nat.{ℕ, zero, suc, _+_, _-_, _^_, _≤_, _<_}
+use Prim.Native.Nat.{ℕ, zero, suc, _-_, _≤_, _<_}
 use native.Mathlib.Omega.{arith}
 use mathlib.Core.Path.{_≡_, refl, sym, ap, _∙_}
 use mathlib.Core.Bool.{true, false≢true}
@@ -8,31 +8,23 @@ use mathlib.Core.List.{List, [], _∷_}
 use borrow.Author.Tests.{eqb-true, eqb-false, eq-eqb}
 use lib.Dec.{eqb}
 use lib.ListN.{length}
+use Rattle.laws.specs.Cases.{by-test}
 use Rattle.laws.specs.Count.{one, count, among, without, rising}
-use Rattle.laws.proofs.CountLaws.{count-nil, count-cons, count-here, without-cons, by-test}
-use Rattle.mixing.specs.Mixing.{mixOf, mixOf-lt}
+use Rattle.laws.specs.CountLaws.{count-nil, count-cons, count-here, among-once, without-cons, rising-has}
+use Rattle.mixing.specs.Mixing.{mixOf}
 use Rattle.fuse.specs.Asking.{graphHash}
 use Rattle.fuse.specs.Positions.{Usable, cellsIn, cellOf, positionsOf}
+use Rattle.fuse.proofs.AskLaws.{graph-lt}
 use Rattle.fuse.proofs.PositionLaws.{cell-below}
 use Rattle.sizing.specs.Sizing.{segmentOf, segmentsOf, sizesOf}
 use Rattle.sizing.proofs.SizedLaws.{usable}
 use Rattle.sort.specs.Sort.{insert, sorted}
 use Rattle.peel.specs.Peel.{Attempt, lying, degree, queued, start, settle, next, step, run, attempt, peelsAll, succeeds}
-use Rattle.peel.proofs.PeelLaws.{rising-cons, among-once, lying-nil, lying-cons, degree-cons, queued-yes, queued-no}
+use Rattle.peel.proofs.PeelLaws.{lying-nil, lying-cons, degree-nil, degree-cons, queued-yes, queued-no}
 use Rattle.peel.proofs.PlaceLaws.{positions-placed}
 use Rattle.filter.specs.declared.Built.the-variants.{Positive}
 use Rattle.filter.specs.Building.{peelsBy, BuildPost, WhyPositive, no-hashes, equal-hashes, no-attempt}
 use Rattle.filter.proofs.BuiltLaws.{positive-cause}
-
--- each number from i on stands in `rising`
-rising-has : (n i v : ℕ) → i ≤ v → v < i + n → 1 ≤ count v (rising i n)
-rising-has zero i v a b = absurd (omega arith)
-rising-has (suc n) i v a b =
-    by-test (eqb v i)
-    (λ e. rw rising-cons (omega (arith, count-cons v i (rising (suc i) n), ap one e)))
-    (λ e.
-    let d : v ≡ i → ⊥ = eqb-false v i e in
-    rw rising-cons (omega (arith, count-cons v i (rising (suc i) n), rising-has n (suc i) v (omega arith) (omega arith))))
 
 module _ (pos : ℕ → List ℕ) where
   -- with no hash left, none comes back
@@ -46,15 +38,12 @@ module _ (pos : ℕ → List ℕ) where
       go (p ∷ q) = ap (λ (l : List ℕ). settle pos l p q s .left) (ap (lying pos p) e ∙ lying-nil pos p) ∙ e
 
   module _ (h : ℕ) where
-    none-lie : (p : ℕ) → degree pos p [] ≡ 0
-    none-lie p = ap length (lying-nil pos p)
-
     -- the one hash lies alone on a cell of degree 1
     alone : (p : ℕ) → degree pos p (h ∷ []) ≡ 1 → lying pos p (h ∷ []) ≡ h ∷ []
     alone p d =
         by-test (among p (pos h))
         (λ t. rw (lying-cons, t, lying-nil) refl)
-        (λ t. absurd (omega (arith, degree-cons pos p h [], none-lie p, ap one t)))
+        (λ t. absurd (omega (arith, degree-cons pos p h [], degree-nil pos p, ap one t)))
 
     without-it : without h (h ∷ []) ≡ []
     without-it = rw (without-cons, eq-eqb h h refl) refl
@@ -69,7 +58,7 @@ module _ (pos : ℕ → List ℕ) where
     module _ (n p : ℕ) (low : p < suc n) (lies : degree pos p (h ∷ []) ≡ 1) where
       from-start : (q : List ℕ) → queued pos (h ∷ []) (rising 0 (suc n)) [] ≡ q → step pos (start pos (suc n) (h ∷ [])) .left ≡ []
       from-start [] e =
-          absurd (omega (arith, queued-yes pos (h ∷ []) p lies (rising 0 (suc n)) [], ap (count p) e, count-nil p, rising-has (suc n) 0 p (omega arith) (omega arith)))
+          absurd (omega (arith, queued-yes pos (h ∷ []) p lies (rising 0 (suc n)) [], ap (count p) e, count-nil p, rising-has 0 (suc n) p (omega arith) (omega arith)))
       from-start (v ∷ q) e =
           by-test (eqb (degree pos v (h ∷ [])) 1)
           (λ t. first-step (start pos (suc n) (h ∷ [])) v q refl e (eqb-true _ _ t))
@@ -84,10 +73,6 @@ cell-peels : (pos : ℕ → List ℕ) (c h p : ℕ) → p < c → degree pos p (
 cell-peels pos zero h p low lies = absurd (omega arith)
 cell-peels pos (suc n) h p low lies = one-peels pos h n p low lies
 
-graph-low : (seed hash : ℕ) → graphHash seed hash < 2 ^ 64
-unfolding graphHash
-graph-low seed hash = mixOf-lt _
-
 -- the first of its four cells is one of them
 first-cell : (segment number h : ℕ) → 1 ≤ count (cellOf segment number h 0) (positionsOf segment number h)
 unfolding positionsOf
@@ -96,13 +81,13 @@ first-cell segment number h = omega (arith, count-here (cellOf segment number h 
 -- THEOREM: an attempt over one hash succeeds, with any seed
 pub one-hash-peels : (segment number seed hash : ℕ) → Usable segment number → succeeds segment number seed (hash ∷ []) ≡ true
 one-hash-peels segment number seed hash u =
-    let placed = positions-placed segment number (graphHash seed hash) u (graph-low seed hash) in
+    let placed = positions-placed segment number (graphHash seed hash) u (graph-lt seed hash) in
     cell-peels (positionsOf segment number) (cellsIn segment number) (graphHash seed hash) (cellOf segment number (graphHash seed hash) 0)
-    (cell-below segment number u (graphHash seed hash) (graph-low seed hash) 0 (omega arith))
+    (cell-below segment number u (graphHash seed hash) (graph-lt seed hash) 0 (omega arith))
     (omega (
       arith,
       degree-cons (positionsOf segment number) (cellOf segment number (graphHash seed hash) 0) (graphHash seed hash) [],
-      none-lie (positionsOf segment number) (graphHash seed hash) (cellOf segment number (graphHash seed hash) 0),
+      degree-nil (positionsOf segment number) (cellOf segment number (graphHash seed hash) 0),
       among-once (cellOf segment number (graphHash seed hash) 0) (positionsOf segment number (graphHash seed hash)) (placed .apart (cellOf segment number (graphHash seed hash) 0)),
       placed .apart (cellOf segment number (graphHash seed hash) 0),
       first-cell segment number (graphHash seed hash),

@@ -1,14 +1,15 @@
--- Laws of the table of segment counts: its rule, tested once over the whole table, carried to each n; and the sizes for n hashes.
+-- Laws of the table of segment counts: its rule, tested once over the whole table, carried to each n; the sizes and the plan for n hashes.
 -- Assumes nothing.
 use mathlib.Core.Path.{_≡_, refl, sym, ap, subst}
-use mathlib.Core.Bool.{Bool, true, _&&_, and-eq-true-iff}
+use mathlib.Core.Bool.{Bool, true, false, cond, _&&_, and-eq-true-iff}
 use mathlib.Core.List.{List, _∷_}
 use Prim.Native.Nat.{ℕ, suc, _+_, _-_, _*_, _^_, _≤_, _<_}
 use native.Mathlib.Nat.{lt-of-le-of-lt, mul-le-mul}
 use native.Mathlib.Omega.{arith}
 use lib.Dec.{leb, eqb}
 use lib.ListN.{length, getD, drop}
-use borrow.Author.Tests.{leb-true, eqb-true, ne-eqb}
+use borrow.Author.Tests.{leb-true, eqb-true, eqb-false, ne-eqb}
+use Rattle.fuse.specs.declared.Sizes.{Sizes}
 use Rattle.fuse.specs.Positions.{cellsIn, Usable}
 use Rattle.fuse.specs.Layout.{Accepted}
 use Rattle.sizing.specs.declared.Plan.the-variants.{Positive, Fuse}
@@ -135,12 +136,41 @@ module _ (n : ℕ) (l : 1 ≤ n) (h : n ≤ largest) where
 
 -- the sizes for n hashes are accepted beside their cells, whatever the seed
 pub sizes-accepted : (n seed : ℕ) → 1 ≤ n → n < 2 ^ 32
-    → Accepted (record { keys = n; seed = seed; segment = segmentOf n; count = segmentsOf n - 3 }) (cellsOf n)
-sizes-accepted n seed l h =
-    let h₆₄ : n < 2 ^ 64 = omega arith in
-    record { some-key = l; few-keys = h; fits = record { usable = usable n l h₆₄; whole = sym (cells-of n l h₆₄) } }
+    → Accepted (record { keys = n; seed = seed; segment = segmentOf n; count = segmentsOf n - 3 }) (cellsIn (segmentOf n) (segmentsOf n - 3))
+sizes-accepted n seed l h = record { some-key = l; few-keys = h; fits = record { usable = usable n l (omega arith); whole = refl } }
 
--- ---- the plan, as the code makes it
+-- ---- the plan
+
+split-plan : (t : Bool) (x s : Sizes) → cond t Positive (Fuse x) ≡ Fuse s → (t ≡ false) × (x ≡ s)
+split-plan true x s e = (cc, cc)
+split-plan false x s e = (refl, cc)
+
+split-none : (t : Bool) (x : Sizes) → cond t Positive (Fuse x) ≡ Positive → t ≡ true
+split-none true x e = refl
+split-none false x e = cc
+
+-- only for no hashes is the plan Positive
+pub plan-zero : (n : ℕ) → planOf n ≡ Positive → n ≡ 0
+unfolding planOf
+plan-zero n e = eqb-true n 0 (split-none (eqb n 0) (sizesOf n) e)
+
+-- a plan with sizes has those for n hashes
+module _ (n : ℕ) (s : Sizes) (e : planOf n ≡ Fuse s) where
+  plan-split : (eqb n 0 ≡ false) × (sizesOf n ≡ s)
+  unfolding planOf
+  plan-split = split-plan (eqb n 0) (sizesOf n) s e
+
+  pub plan-least : 1 ≤ n
+  plan-least = let d = eqb-false n 0 (plan-split .0) in omega arith
+
+  pub plan-sizes : sizesOf n ≡ s
+  plan-sizes = plan-split .1
+
+  pub plan-usable : n < 2 ^ 64 → Usable (s .segment) (s .count)
+  unfolding sizesOf
+  plan-usable l = subst (λ (x : Sizes). Usable (x .segment) (x .count)) plan-sizes (usable n plan-least l)
+
+-- as the code makes it
 
 pub plan-none : (n : ℕ) → n ≡ 0 → Positive ≡ planOf n
 unfolding planOf

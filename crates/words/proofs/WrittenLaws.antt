@@ -9,15 +9,18 @@ use lib.Seq.{drop-drop, drop-at, take-at}
 use Rattle.words.specs.Field.{spelled, le, bytesOf}
 use Rattle.words.proofs.Laws.{AllBytes, length-bytesOf, spelled-bytesOf, bytesOf-le}
 
--- a number written behind a front of p elements
-pub le-written : (k n p : ℕ) (zs xs ys : List ℕ) → n < 256 ^ k → length xs ≡ p → zs ≡ xs ++ (bytesOf k n ++ ys) → le k zs p ≡ n
+-- a number that stands at a place
+pub le-there : (k n p : ℕ) (zs ys : List ℕ) → n < 256 ^ k → drop p zs ≡ bytesOf k n ++ ys → le k zs p ≡ n
 unfolding le
-le-written k n p zs xs ys h l e =
-    ap (λ (z : List ℕ). spelled (take k (drop p z))) e
-    ∙ ap (λ (z : List ℕ). spelled (take k z)) (drop-at xs (bytesOf k n ++ ys) p l)
+le-there k n p zs ys h e =
+    ap (λ (z : List ℕ). spelled (take k z)) e
     ∙ ap spelled (take-at (bytesOf k n) ys k (length-bytesOf k n))
     ∙ spelled-bytesOf k n
     ∙ mod-eq-of-lt h
+
+-- a number written behind a front of p elements
+pub le-written : (k n p : ℕ) (zs xs ys : List ℕ) → n < 256 ^ k → length xs ≡ p → zs ≡ xs ++ (bytesOf k n ++ ys) → le k zs p ≡ n
+le-written k n p zs xs ys h l e = le-there k n p zs ys h (ap (drop p) e ∙ drop-at xs (bytesOf k n ++ ys) p l)
 
 -- a part and what follows it
 pub part-rest : (k at to : ℕ) (xs : List ℕ) → at + k ≡ to → take k (drop at xs) ++ drop to xs ≡ drop at xs

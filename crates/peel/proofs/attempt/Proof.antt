@@ -28,11 +28,11 @@ returns c =
     let a = s .args in
     tried-no (a .g) (s .pre .0) (a .hashes .now) (a .cells .now) _ _ _ _ (c .before .before .before .before .before .peel-hashes .ensures .1) (c .if1 .taken)
 
-clear-cells-requires : tie.Need-clear-cells-requires
-clear-cells-requires c κs = search needs
-
 fill-requires : tie.Need-fill-requires
-fill-requires c κs =
+fill-requires c κs = search needs
+
+fill-requires-2 : tie.Need-fill-requires-2
+fill-requires-2 c κs =
     let s = c .before .before .before .before .before .before .before .before .before .before .before .before .before .before .before .before .before .before .before in
     let a = s .args in
     let R = c .before .before .before .before .before .before .before .before .before .before .before .before .peel-hashes .ensures .1 in
@@ -57,9 +57,9 @@ returns-2 c =
     let a = s .args in
     let h = c .before .before .before .before .before .before .before .before .before .before .before .before .before .before .before .peel-hashes in
     tried-yes (a .g) (s .pre .0) (a .hashes .now) (a .cells .now) _ _ _ _ (h .ensures .1) (c .before .before .before .before .before .before .before .before .before .before .if1 .left) _
-    (c .before .before .fill .ensures
+    (c .before .before .fill2 .ensures
     ∙ ap (fill (positionsOf (a .g .segment) (a .g .count)) (peels (a .g .cells) (h .result) (h .last .1 .0) (h .last .1 .1 .0)))
-    (c .before .before .before .before .before .before .before .before .clear-cells .ensures ∙ ap (λ (k : ℕ). replicate k 0) (s .pre .4)))
+    (c .before .before .before .before .before .before .before .before .fill .ensures ∙ ap (λ (k : ℕ). replicate k 0) (s .pre .4)))
 
 pub attempt-spec : {M : Type 1} → statement M
 attempt-spec =
@@ -69,8 +69,8 @@ attempt-spec =
     same-length
     same-length-2
     returns
-    clear-cells-requires
     fill-requires
+    fill-requires-2
     same-length-3
     same-length-4
     same-length-5

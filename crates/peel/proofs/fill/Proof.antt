@@ -54,7 +54,7 @@ cast-p c =
 xor-cells-requires : tie.Need-xor-cells-requires Inv-loop μ-loop
 xor-cells-requires c κs =
     let s = c .before .before .before .before .before .before .before .before in
-    (s .pre .0 .0 .usable, c .before .before .before .before .loop .inv .1 ∙ s .pre .0 .1 ∙ s .pre .0 .0 .cells-are)
+    (s .pre .0 .0 .usable, c .before .before .before .before .loop .inv .1 ∙ s .pre .0 .1 ∙ s .pre .0 .0 .whole)
 
 cast-cells : tie.Need-cast-cells Inv-loop μ-loop
 cast-cells c = search needs

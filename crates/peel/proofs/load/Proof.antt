@@ -4,9 +4,9 @@ use mathlib.Core.List.{List, []}
 use Prim.Native.Nat.{ℕ, _-_, _≤_}
 use native.Mathlib.Omega.{arith}
 use borrow.Author.Needs.{needs}
-use lib.ListN.{length, drop}
-use Rattle.peel.proofs.TableLaws.{tables-fit, tables-load, mixed-at}
-use lib.ListN.{length-map, length-drop, drop-of-length-le}
+use lib.ListN.{length, drop, length-map, drop-of-length-le}
+use Rattle.laws.specs.Lists.{map-at}
+use Rattle.peel.proofs.TableLaws.{tables-load}
 use Rattle.fuse.specs.Asking.{graphHash}
 use Rattle.fuse.specs.Positions.{positionsOf}
 use Rattle.peel.specs.Peel.{mixed}
@@ -45,16 +45,17 @@ graph-hash-requires c κs = search needs
 positions-requires : tie.Need-positions-requires Inv-loop μ-loop
 positions-requires c κs = c .before .before .before .before .before .before .before .pre .0 .usable
 
-slice-aggregate-add : tie.Need-slice-aggregate-add Inv-loop μ-loop
-slice-aggregate-add c = search needs
+slice-aggregate-change : tie.Need-slice-aggregate-change Inv-loop μ-loop
+slice-aggregate-change c = search needs
 
-add-requires : tie.Need-add-requires Inv-loop μ-loop
-add-requires c κs =
+change-requires : tie.Need-change-requires Inv-loop μ-loop
+change-requires c κs =
     let s = c .before .before .before .before .before .before .before .before .before .before .before in
     let l = c .before .before .before .before .before .before .before .loop in
     let a = s .args in
-    tables-fit _ (a .g .cells) (drop (l .i) (mixed (a .g .seed) (a .hashes .now))) _ _ _ _ (c .before .before .before .positions .ensures) (graph-placed (a .g) (s .pre .0) _ _ _ (c .before .before .before .before .graph-hash .ensures)) (l .inv .3)
-    (omega (arith, length-drop (l .i) (mixed (a .g .seed) (a .hashes .now)), length-map (a .hashes .now) (graphHash (a .g .seed))))
+    let ps = c .before .before .before .positions .ensures in
+    let k = graph-placed (a .g) (s .pre .0) _ _ _ (c .before .before .before .before .graph-hash .ensures) in
+    rw ps ((λ v z. k .below v (omega (arith, l .inv .3 .degrees))), λ v z. k .below v (omega (arith, l .inv .3 .mixes)))
 
 loop-less : tie.Need-loop-less Inv-loop μ-loop
 loop-less c = search needs
@@ -69,8 +70,8 @@ loop-again c =
       omega arith,
       search needs,
       search needs,
-      tables-load _ (a .g .cells) (mixed (a .g .seed) (a .hashes .now)) _ _ _ _ _ _ (l .i) (omega arith) (omega arith) (k ∙ sym (mixed-at (a .g .seed) (a .hashes .now) (l .i - 1) (omega arith)))
-          (c .before .before .before .before .before .before .before .before .positions .ensures) (graph-placed (a .g) (s .pre .0) _ _ _ k) (l .inv .3) (c .before .before .before .before .add .ensures .0) (c .before .before .before .before .add .ensures .1),
+      tables-load _ (a .g .cells) (mixed (a .g .seed) (a .hashes .now)) _ _ _ _ _ _ (l .i) (omega arith) (omega arith) (k ∙ sym (map-at (graphHash (a .g .seed)) (a .hashes .now) (l .i - 1) (omega arith)))
+          (c .before .before .before .before .before .before .before .before .positions .ensures) (graph-placed (a .g) (s .pre .0) _ _ _ k) (omega arith) (l .inv .3) (c .before .before .before .before .change .ensures .0) (c .before .before .before .before .change .ensures .1),
     )
 
 same-length : tie.Need-same-length Inv-loop μ-loop
@@ -97,8 +98,8 @@ load-spec =
     shared-slice-read-graph-hash
     graph-hash-requires
     positions-requires
-    slice-aggregate-add
-    add-requires
+    slice-aggregate-change
+    change-requires
     loop-less
     loop-again
     same-length

@@ -1,15 +1,15 @@
 -- The hashes are loaded, the cells of degree 1 queued, and all steps taken. Assumes nothing.
-use mathlib.Core.Path.{_≡_}
+use mathlib.Core.Path.{_≡_, sym}
 use native.Mathlib.Omega.{arith}
 use borrow.Author.Needs.{needs}
-use lib.ListN.{length}
-use lib.ListN.{length-map}
+use lib.ListN.{length, length-map}
+use lib.Seq.{length-take-le}
 use Rattle.fuse.specs.Asking.{graphHash}
 use Rattle.fuse.specs.Positions.{positionsOf}
 use Rattle.peel.specs.Peel.{start, mixed}
 use Rattle.peel.specs.Table.{Ready}
 use Rattle.peel.proofs.PlaceLaws.{whole-small, whole-placed}
-use Rattle.peel.proofs.TableLaws.{tables-none}
+use Rattle.peel.proofs.TableLaws.{tables-none, cleared}
 use Rattle.peel.proofs.StepLaws.{ready-start}
 use Rattle.peel.proofs.peel_hashes.Statement.{statement}
 use Rattle.peel.proofs.peel_hashes.Tie as tie
@@ -28,18 +28,30 @@ begun k =
     ready-start _ (a .g .cells) (mixed (a .g .seed) (a .hashes .now)) _ (k .before .before .before .before .before .before .before .before .load .last .1 .1 .0) _ _ (whole-placed (a .g) (s .pre .0) (a .hashes .now)) (k .before .before .before .before .before .before .before .before .load .ensures)
     (k .before .before .queue-ones .ensures) (search needs) (omega arith) (omega arith)
 
-clear-wide-requires : tie.Need-clear-wide-requires
-clear-wide-requires c κs = search needs
+slice-relend-prefix-clear-u64 : tie.Need-slice-relend-prefix-clear-u64
+slice-relend-prefix-clear-u64 c = search needs
 
-clear-narrow-requires : tie.Need-clear-narrow-requires
-clear-narrow-requires c κs = search needs
+slice-aggregate-clear-u64 : tie.Need-slice-aggregate-clear-u64
+slice-aggregate-clear-u64 c = let s = c .before .before .before .before in sym (length-take-le (s .args .g .cells) (s .args .wide .now) (omega arith))
+
+clear-u64-requires : tie.Need-clear-u64-requires
+clear-u64-requires c κs = search needs
+
+slice-relend-prefix-clear-u32 : tie.Need-slice-relend-prefix-clear-u32
+slice-relend-prefix-clear-u32 c = search needs
+
+slice-aggregate-clear-u32 : tie.Need-slice-aggregate-clear-u32
+slice-aggregate-clear-u32 c = let s = c .before .before .before .before .before .before .before .before in sym (length-take-le (s .args .g .cells) (s .args .narrow .now) (omega arith))
+
+clear-u32-requires : tie.Need-clear-u32-requires
+clear-u32-requires c κs = search needs
 
 load-requires : tie.Need-load-requires
 load-requires c κs =
     let s = c .before .before .before .before .before .before .before .before .before .before .before .before .before in (
       s .pre .0,
       s .pre .1,
-      tables-none _ _ _ _ (search needs) (search needs) (c .before .before .before .before .clear-narrow .ensures) (c .before .before .before .before .before .before .before .before .clear-wide .ensures),
+      tables-none _ _ _ _ (search needs) (search needs) (cleared _ (s .args .narrow .now) _ (c .before .before .before .before .clear-u32 .ensures) (search needs)) (cleared _ (s .args .wide .now) _ (c .before .before .before .before .before .before .before .before .clear-u64 .ensures) (search needs)),
     )
 
 queue-ones-requires : tie.Need-queue-ones-requires
@@ -61,8 +73,12 @@ pub peel-hashes-spec : {M : Type 1} → statement M
 peel-hashes-spec =
     tie.close
     (tie.spec
-    clear-wide-requires
-    clear-narrow-requires
+    slice-relend-prefix-clear-u64
+    slice-aggregate-clear-u64
+    clear-u64-requires
+    slice-relend-prefix-clear-u32
+    slice-aggregate-clear-u32
+    clear-u32-requires
     load-requires
     queue-ones-requires
     peel-all-requires

@@ -3,9 +3,9 @@ use mathlib.Core.List.{List}
 use Prim.Native.Nat.{ℕ, _-_, _<_, _≤_}
 use native.Mathlib.Omega.{arith}
 use borrow.Author.Needs.{needs}
-use lib.ListN.{length, getD, drop}
-use Rattle.peel.proofs.TableLaws.{cell-below, Noting, noting-start, noting-turn, noting-room, noting-end, drop-next}
-use lib.ListN.{drop-of-length-le}
+use lib.ListN.{length, getD, drop, drop-of-length-le}
+use Rattle.laws.specs.Lists.{drop-next}
+use Rattle.peel.proofs.TableLaws.{cell-below, Noting, noting-start, noting-turn, noting-room, noting-end}
 use Rattle.peel.specs.Table.{noted, stack}
 use Rattle.peel.proofs.queue_cells.Statement.{statement}
 use Rattle.peel.proofs.queue_cells.Tie as tie

@@ -1,15 +1,15 @@
 -- One step of the peeling. Assumes nothing.
 use mathlib.Core.Path.{_≡_, _∙_}
 use mathlib.Core.List.{List}
-use Prim.Native.Nat.{ℕ, suc, _+_, _-_, _<_}
+use Prim.Native.Nat.{ℕ, suc, _+_, _-_, _^_, _<_}
 use native.Mathlib.Omega.{arith}
 use borrow.Author.Needs.{needs}
-use lib.ListN.{length, getD}
+use lib.ListN.{length, getD, length-set}
 use Rattle.fuse.specs.Positions.{positionsOf}
 use Rattle.peel.specs.Peel.{Attempt}
 use Rattle.peel.specs.Table.{Ready}
 use Rattle.peel.proofs.PlaceLaws.{whole-small}
-use Rattle.peel.proofs.StepLaws.{top-le, ready-empty, cell-under, ready-skip, room-peel, spare, cells-under, narrow-length, wide-length, room-queue, ready-peel, ready-suc}
+use Rattle.peel.proofs.StepLaws.{top-le, ready-empty, cell-under, ready-skip, room-peel, cells-under, narrow-length, wide-length, room-queue, ready-peel, ready-suc}
 use Rattle.peel.proofs.step.Statement.{statement}
 use Rattle.peel.proofs.step.Tie as tie
 
@@ -40,6 +40,10 @@ stack-in g z e =
     let R = given g z in
     let k : g .args .at .peeled < length (g .pre .1 .0) = room-peel _ _ _ _ _ _ _ _ R e in
     (omega (arith, R .wide-room), omega (arith, R .narrow-room))
+
+-- the degrees are words of 32 bits
+bounded : (c : tie.After-slice-known2) (v : ℕ) → getD (c .before .before .args .narrow .now) v 0 < 2 ^ 32
+bounded c v = c .slice-known2 .given v .fits
 
 returns : tie.Need-returns
 returns c =
@@ -102,13 +106,14 @@ slice-write-narrow c = stack-in (c .before .before .before .before .before .befo
 positions-requires : tie.Need-positions-requires
 positions-requires c κs = c .before .before .before .before .before .before .before .pre .0 .usable
 
-slice-aggregate-remove : tie.Need-slice-aggregate-remove
-slice-aggregate-remove c = search needs
+slice-aggregate-change : tie.Need-slice-aggregate-change
+slice-aggregate-change c = search needs
 
-remove-requires : tie.Need-remove-requires
-remove-requires c κs =
-    let g = c .before .before .before .before .before .before .before .before .before .before .before in
-    spare _ _ _ _ _ _ _ _ (given g (c .before .before .before .before .before .before .before .before .if1 .left)) (c .before .before .before .before .before .if2 .left) _ (c .before .before .before .positions .ensures)
+change-requires : tie.Need-change-requires
+change-requires c κs =
+    let R = given (c .before .before .before .before .before .before .before .before .before .before .before) (c .before .before .before .before .before .before .before .before .if1 .left) in
+    let u = cells-under _ _ _ _ _ _ _ _ R (c .before .before .before .before .before .if2 .left) _ (c .before .before .before .positions .ensures) in
+    ((λ v z. u v (let z' = rw length-set at z in omega (arith, R .narrow-room))), λ v z. u v (let z' = rw length-set at z in omega (arith, R .wide-room)))
 
 slice-aggregate-queue-cells : tie.Need-slice-aggregate-queue-cells
 slice-aggregate-queue-cells c = search needs
@@ -119,11 +124,12 @@ queue-cells-requires c κs =
     let R = given g (c .before .before .before .before .before .before .before .before .before .before .before .before .before .before .before .if1 .left) in
     let e = c .before .before .before .before .before .before .before .before .before .before .before .before .if2 .left in
     let p = c .before .before .before .before .before .before .before .before .before .before .positions .ensures in
-    let k = c .before .before .before .before .before .before .remove .ensures in (
+    let small = bounded (c .before .before .before .before .before .before .before .before .before .before .before .before .before .before .before .before) in
+    let k = c .before .before .before .before .before .before .change .ensures in (
       omega (arith, whole-small (g .args .g) (g .pre .0)),
-      omega (arith, R .narrow-room, narrow-length _ _ _ _ _ _ _ _ R e _ p _ _ (k .0) (k .1)),
+      omega (arith, R .narrow-room, narrow-length _ _ _ _ _ _ _ _ R e _ p small _ _ (k .0) (k .1)),
       cells-under _ _ _ _ _ _ _ _ R e _ p,
-      room-queue _ _ _ _ _ _ _ _ R e _ p _ _ (k .0) (k .1),
+      room-queue _ _ _ _ _ _ _ _ R e _ p small _ _ (k .0) (k .1),
     )
 
 add-t15 : tie.Need-add-t15
@@ -134,24 +140,27 @@ same-length c =
     let R = given (c .before .before .before .before .before .before .before .before .before .before .before .before .before .before .before .before .before .before .before .before .before) (c .before .before .before .before .before .before .before .before .before .before .before .before .before .before .before .before .before .before .if1 .left) in
     let e = c .before .before .before .before .before .before .before .before .before .before .before .before .before .before .before .if2 .left in
     let p = c .before .before .before .before .before .before .before .before .before .before .before .before .before .positions .ensures in
-    let k = c .before .before .before .before .before .before .before .before .before .remove .ensures in
-    wide-length _ _ _ _ _ _ _ _ R e _ p _ _ (k .0) (k .1)
+    let small = bounded (c .before .before .before .before .before .before .before .before .before .before .before .before .before .before .before .before .before .before .before) in
+    let k = c .before .before .before .before .before .before .before .before .before .change .ensures in
+    wide-length _ _ _ _ _ _ _ _ R e _ p small _ _ (k .0) (k .1)
 
 same-length-2 : tie.Need-same-length-2
 same-length-2 c =
     let R = given (c .before .before .before .before .before .before .before .before .before .before .before .before .before .before .before .before .before .before .before .before .before) (c .before .before .before .before .before .before .before .before .before .before .before .before .before .before .before .before .before .before .if1 .left) in
     let e = c .before .before .before .before .before .before .before .before .before .before .before .before .before .before .before .if2 .left in
     let p = c .before .before .before .before .before .before .before .before .before .before .before .before .before .positions .ensures in
-    let k = c .before .before .before .before .before .before .before .before .before .remove .ensures in
-    let q : length (c .before .before .queue-cells .last .0) ≡ length (c .before .before .before .before .before .before .before .before .before .remove .last .0) = search needs in
-    q ∙ narrow-length _ _ _ _ _ _ _ _ R e _ p _ _ (k .0) (k .1)
+    let small = bounded (c .before .before .before .before .before .before .before .before .before .before .before .before .before .before .before .before .before .before .before) in
+    let k = c .before .before .before .before .before .before .before .before .before .change .ensures in
+    let q : length (c .before .before .queue-cells .last .0) ≡ length (c .before .before .before .before .before .before .before .before .before .change .last .0) = search needs in
+    q ∙ narrow-length _ _ _ _ _ _ _ _ R e _ p small _ _ (k .0) (k .1)
 
 returns-3 : tie.Need-returns-3
 returns-3 c =
     λ hs s R.
     let g = c .before .before .before .before .before .before .before .before .before .before .before .before .before .before .before .before .before .before .before .before .before in
-    let k = c .before .before .before .before .before .before .before .before .before .remove .ensures in
-    ready-peel _ _ hs s _ _ _ _ (ready-suc (g .args .at .top) (c .before .before .before .before .before .before .before .before .before .before .before .before .before .before .before .before .before .before .if1 .left) R) (c .before .before .before .before .before .before .before .before .before .before .before .before .before .before .before .if2 .left) _ (c .before .before .before .before .before .before .before .before .before .before .before .before .before .positions .ensures) _ _ (k .0) (k .1) _ _ (search needs) (c .before .before .queue-cells .ensures)
+    let small = bounded (c .before .before .before .before .before .before .before .before .before .before .before .before .before .before .before .before .before .before .before) in
+    let k = c .before .before .before .before .before .before .before .before .before .change .ensures in
+    ready-peel _ _ hs s _ _ _ _ (ready-suc (g .args .at .top) (c .before .before .before .before .before .before .before .before .before .before .before .before .before .before .before .before .before .before .if1 .left) R) (c .before .before .before .before .before .before .before .before .before .before .before .before .before .before .before .if2 .left) _ (c .before .before .before .before .before .before .before .before .before .before .before .before .before .positions .ensures) small _ _ (k .0) (k .1) _ _ (search needs) (c .before .before .queue-cells .ensures)
 
 pub step-spec : {M : Type 1} → statement M
 step-spec =
@@ -176,8 +185,8 @@ step-spec =
     mul-narrow
     slice-write-narrow
     positions-requires
-    slice-aggregate-remove
-    remove-requires
+    slice-aggregate-change
+    change-requires
     slice-aggregate-queue-cells
     queue-cells-requires
     add-t15

@@ -29,7 +29,7 @@ mix-requires c κs = search needs
 all-present-requires : tie.Need-all-present-requires
 all-present-requires c κs =
     let p = c .before .before .before .before .before .before .before .before .before .before .before .before .before .before .before .before .before .pre in
-    record { usable = p .usable; whole = search needs ∙ p .whole }
+    record { usable = p .fits .usable; whole = search needs ∙ p .fits .whole }
 
 same-length-4 : tie.Need-same-length-4
 same-length-4 c = search needs
@@ -61,7 +61,7 @@ returns-3 c =
     let a = s .args in
     let h = c .before .before .before .before .before .before .before .before .before .before .before .search in
     absurd (construct-check (a .s) (a .hashes .now) (a .cells .now) (h .last .1 .1 .1 .0) (h .result) (h .ensures) (c .before .before .before .before .if1 .left) (c .before .before .before .mix .result) (c .before .before .before .mix .ensures)
-    (s .pre .usable) (c .before .all-present .ensures (c .if2 .left)))
+    (s .pre .fits .usable) (c .before .all-present .ensures (c .if2 .left)))
 
 pub construct-spec : {M : Type 1} → statement M
 construct-spec =

@@ -1,9 +1,9 @@
--- The attempts, one after another: the loop's invariant is that those left give the first of all, and that the cells are as they were. Assumes nothing.
+-- The attempts, one after another: the loop's invariant is that those before failed, and that the cells are as they were. Assumes nothing.
 use mathlib.Core.Path.{_≡_, refl, _∙_}
 use Prim.Native.Nat.{_-_}
 use lib.ListN.{length}
 use native.Mathlib.Omega.{arith}
-use Rattle.filter.proofs.BuildingLaws.{Searching, searching-start, searching-end, tried-hit, tried-miss}
+use Rattle.filter.proofs.BuildingLaws.{Searching, searching-start, tried-hit, tried-miss, tried-none}
 use borrow.Author.Needs.{needs}
 use Rattle.filter.proofs.building.search.Statement.{statement}
 use Rattle.filter.proofs.building.search.Tie as tie
@@ -16,7 +16,7 @@ abbrev μ-loop : tie.MeasureT-loop
 μ-loop hashes wide₀ narrow₀ cells₀ s i₀ wide narrow cells i = 100 - i
 
 loop-holds : tie.Need-loop-holds Inv-loop μ-loop
-loop-holds c = (searching-start _ _, refl, refl, refl, refl)
+loop-holds c = let a = c .before .before .before .before .args in (searching-start (a .s) (a .hashes .now), refl, refl, refl, refl)
 
 add-mix : tie.Need-add-mix Inv-loop μ-loop
 add-mix c = search needs
@@ -34,7 +34,7 @@ attempt-requires : tie.Need-attempt-requires Inv-loop μ-loop
 attempt-requires c κs =
     let p = c .before .before .before .before .before .before .before .before .before .before .before .before .pre in
     let v = c .before .before .before .before .before .before .before .loop .inv in
-    (record { usable = p .usable; cells-are = v .3 ∙ p .whole }, p .few, omega (arith, p .wide-room), omega (arith, p .narrow-room), refl)
+    (record { usable = p .fits .usable; whole = v .3 ∙ p .fits .whole }, p .few, omega (arith, p .wide-room), omega (arith, p .narrow-room), refl)
 
 add-result : tie.Need-add-result Inv-loop μ-loop
 add-result c = search needs
@@ -81,7 +81,7 @@ same-length-6 c = search needs
 returns-2 : tie.Need-returns-2 Inv-loop μ-loop
 returns-2 c =
     let l = c .before .loop in
-    record { first = searching-end _ _ (l .i) (l .inv .0) (c .loop-test .left); cells = l .inv .4 }
+    tried-none _ _ _ _ (l .i) (l .inv .0) (c .loop-test .left) (l .inv .4)
 
 pub search-spec : {M : Type 1} → statement M
 search-spec =

@@ -1,8 +1,9 @@
 -- `fuse::header::fits` meets its contract: each refusal lacks a fact.
 -- Assumes nothing.
+use mathlib.Core.Path.{ap, _∙_}
 use native.Mathlib.Omega.{arith}
+use lib.Dec.{eqb}
 use Rattle.fuse.proofs.FitLaws.{not-fitting, fitting-last, accepted-ones, cells-fit}
-use borrow.Author.Needs.{needs}
 use Rattle.fuse.proofs.header.fits.Statement.{statement}
 use Rattle.fuse.proofs.header.fits.Tie as tie
 
@@ -31,29 +32,21 @@ returns-5 c =
     let a = c .before .before .before .before .before .args in
     not-fitting (a .s) (a .cells) (λ u. omega (arith, u .fits .usable .counted))
 
-cast-whole : tie.Need-cast-whole
-cast-whole c = search needs
-
-add-whole : tie.Need-add-whole
-add-whole c = search needs
-
-cast-whole-2 : tie.Need-cast-whole-2
-cast-whole-2 c = search needs
-
-mul-whole : tie.Need-mul-whole
-mul-whole c =
+cells-requires : tie.Need-cells-requires
+cells-requires c κs =
     let s = c .before .before .before .before .before .args .s in
-    record { fits = cells-fit (s .count) (s .segment) (omega arith) (omega arith) }
+    cells-fit (s .count) (s .segment) (omega arith) (omega arith)
 
 returns-6 : tie.Need-returns-6
 returns-6 c =
-    let a = c .before .before .before .before .before .before .args in
+    let a = c .before .before .before .before .before .before .before .args in
     not-fitting (a .s) (a .cells) (λ u. omega (arith, u .fits .usable .small))
 
 returns-7 : tie.Need-returns-7
 returns-7 c =
-    let a = c .before .before .before .before .before .before .args in
-    fitting-last (a .s) (a .cells) (omega arith) (omega arith) (omega arith) (omega arith) (omega arith) (omega arith)
+    let a = c .before .before .before .before .before .before .before .args in
+    ap (eqb (a .cells)) (c .before .cells .ensures)
+    ∙ fitting-last (a .s) (a .cells) (omega arith) (omega arith) (omega arith) (omega arith) (omega arith) (omega arith)
 
 pub fits-spec : {M : Type 1} → statement M
 fits-spec =
@@ -64,9 +57,6 @@ fits-spec =
     returns-3
     returns-4
     returns-5
-    cast-whole
-    add-whole
-    cast-whole-2
-    mul-whole
+    cells-requires
     returns-6
     returns-7)

@@ -2,7 +2,8 @@
 -- Assumes nothing.
 use mathlib.Core.Path.{_∙_}
 use lib.ListN.{replicate}
-use Rattle.fuse.proofs.HeaderLaws.{splice-whole, header-length}
+use Rattle.words.proofs.PartLaws.{splice-whole}
+use Rattle.fuse.proofs.HeaderLaws.{header-length}
 use Rattle.fuse.specs.Layout.{headerOf}
 use borrow.Author.Needs.{needs}
 use Rattle.fuse.proofs.header.header.Statement.{statement}

@@ -3,28 +3,17 @@
 use mathlib.Core.Path.{ap, _∙_}
 use mathlib.Core.List.{List}
 use Prim.Native.Nat.{ℕ}
-use native.Mathlib.Omega.{arith}
 use Rattle.words.specs.Field.{bytesOf, splice}
-use Rattle.fuse.specs.Positions.{cellsIn}
 use Rattle.fuse.proofs.HeaderLaws.{header-written}
 use borrow.Author.Needs.{needs}
 use Rattle.fuse.proofs.header.put_header.Statement.{statement}
 use Rattle.fuse.proofs.header.put_header.Tie as tie
 
+cells-requires : tie.Need-cells-requires
+cells-requires c κs = search needs
+
 cast-cells : tie.Need-cast-cells
 cast-cells c = search needs
-
-add-cells : tie.Need-add-cells
-add-cells c = search needs
-
-cast-cells-2 : tie.Need-cast-cells-2
-cast-cells-2 c = search needs
-
-mul-cells : tie.Need-mul-cells
-mul-cells c = omega (arith, c .before .pre .1)
-
-cast-cells-3 : tie.Need-cast-cells-3
-cast-cells-3 c = omega (arith, c .before .pre .1)
 
 put-u64-requires : tie.Need-put-u64-requires
 put-u64-requires c κs = search needs
@@ -63,9 +52,9 @@ returns c =
     let c₃ = c₄ .before .before .before .before in
     let c₂ = c₃ .before .before .before .before in
     let c₁ = c₂ .before .before .before .before in
-    let a = c₁ .before .before .before .args in
+    let a = c₁ .before .before .before .before .args in
     let s = a .s in
-    let n : ℕ = cellsIn (s .segment) (s .count) in
+    let n : ℕ = c₁ .before .before .cells .result in
     let put : ℕ → List ℕ → List ℕ → List ℕ = λ at q t. splice t at q in
     c₈ .put-u324 .ensures ∙ ap (put 44 (bytesOf 4 n)) (
     c₇ .put-u323 .ensures ∙ ap (put 40 (bytesOf 4 n)) (
@@ -75,17 +64,14 @@ returns c =
     c₃ .put-u643 .ensures ∙ ap (put 16 (bytesOf 8 (s .keys))) (
     c₂ .put-u642 .ensures ∙ ap (put 8 (bytesOf 8 0x0000_0030_0801_0201)) (
     c₁ .put-u64 .ensures)))))))
-    ∙ header-written s (a .out .now) (c₁ .before .before .before .pre .0)
+    ∙ header-written s n (a .out .now) (c₁ .before .before .cells .ensures) (c₁ .before .before .before .before .pre .0)
 
 pub put-header-spec : {M : Type 1} → statement M
 put-header-spec =
     tie.close
     (tie.spec
+    cells-requires
     cast-cells
-    add-cells
-    cast-cells-2
-    mul-cells
-    cast-cells-3
     put-u64-requires
     put-u64-requires-2
     put-u64-requires-3

@@ -1,14 +1,15 @@
--- Laws of `count` and `without`, and the pigeonhole. Assumes nothing.
+-- Laws of `count`, `without` and `rising`, and the pigeonhole: numbers below c, none twice, are at most c. Assumes nothing.
 use mathlib.Core.Path.{_≡_, refl, sym, ap, _∙_}
-use mathlib.Core.Bool.{Bool, true, false, cond}
+use mathlib.Core.Bool.{cond}
 use mathlib.Core.List.{List, [], _∷_, _++_}
-use Prim.Native.Nat.{ℕ, zero, suc, _+_, _<_, _≤_, zero-le}
+use Prim.Native.Nat.{ℕ, zero, suc, _+_, _-_, _<_, _≤_, zero-le}
 use native.Mathlib.Nat.{not-suc-le-zero}
 use native.Mathlib.Omega.{arith}
 use borrow.Author.Tests.{eqb-true, eqb-false, eq-eqb, ne-eqb, ltb-true, ltb-false}
-use lib.Dec.{eqb}
+use lib.Dec.{eqb, ltb}
 use lib.ListN.{length, getD, set}
-use Rattle.laws.specs.Count.{one, count, among, without}
+use Rattle.laws.specs.Cases.{by-test}
+use Rattle.laws.specs.Count.{one, count, among, without, rising}
 
 pub count-nil : (v : ℕ) → count v [] ≡ 0
 unfolding count
@@ -24,11 +25,16 @@ count-here x xs = rw (count-cons, eq-eqb x x refl) (omega arith)
 pub count-other : (v x : ℕ) (xs : List ℕ) → (v ≡ x → ⊥) → count v (x ∷ xs) ≡ count v xs
 count-other v x xs d = rw (count-cons, ne-eqb v x d) (omega arith)
 
+-- a number that stands in a list is counted
+pub count-at : (xs : List ℕ) (i : ℕ) → i < length xs → 1 ≤ count (getD xs i 0) xs
+count-at [] i h = absurd (not-suc-le-zero h)
+count-at (x ∷ xs) zero h = omega (arith, count-here x xs)
+count-at (x ∷ xs) (suc i) h = omega (arith, count-cons (getD xs i 0) x xs, count-at xs i (omega arith))
+
 pub count-append : (v : ℕ) (xs ys : List ℕ) → count v (xs ++ ys) ≡ count v xs + count v ys
 count-append v [] ys = rw count-nil (omega arith)
 count-append v (x ∷ xs) ys = simp count-cons (omega (arith, count-append v xs ys))
 
--- what is not there is not taken away
 pub without-cons : (v x : ℕ) (xs : List ℕ) → without v (x ∷ xs) ≡ cond (eqb v x) xs (x ∷ without v xs)
 unfolding without
 without-cons v x xs = refl
@@ -37,10 +43,27 @@ pub without-nil : (v : ℕ) → without v [] ≡ []
 unfolding without
 without-nil v = refl
 
--- a test, by its two answers
-pub by-test : {P : Type 0} (b : Bool) → (b ≡ true → P) → (b ≡ false → P) → P
-by-test true f g = f refl
-by-test false f g = g refl
+-- where a number that is counted stands
+pub count-where : (v : ℕ) (xs : List ℕ) → 1 ≤ count v xs → (i : ℕ) × (i < length xs) × (getD xs i 0 ≡ v)
+count-where v [] h = absurd (not-suc-le-zero (rw count-nil at h))
+count-where v (x ∷ xs) h =
+    by-test (eqb v x) (λ e. (0, omega arith, sym (eqb-true v x e)))
+    (λ e.
+    let w = count-where v xs (omega (arith, count-other v x xs (eqb-false v x e))) in
+    (suc (w .0), omega (arith, w .1), w .2))
+
+-- where none from c on is counted, a number that is counted is below c
+pub count-below : (c v : ℕ) (xs : List ℕ) → ((u : ℕ) → c ≤ u → count u xs ≡ 0) → 1 ≤ count v xs → v < c
+count-below c v xs b k = by-test (ltb v c) (λ t. ltb-true v c t) (λ t. absurd (omega (arith, b v (ltb-false v c t))))
+
+-- in a list with none twice, a number stands once or not at all
+pub among-once : (v : ℕ) (xs : List ℕ) → count v xs ≤ 1 → one (among v xs) ≡ count v xs
+among-once v xs o = go (count v xs) o
+  where
+    go : (n : ℕ) → n ≤ 1 → one (ltb 0 n) ≡ n
+    go zero k = refl
+    go (suc zero) k = refl
+    go (suc (suc n)) k = omega arith
 
 -- one v goes, if there is one; everything else stays
 pub count-without : (u v : ℕ) (xs : List ℕ) → 1 ≤ count v xs → one (eqb u v) + count u (without v xs) ≡ count u xs
@@ -116,3 +139,37 @@ count-apart (x ∷ xs) apart v =
     let none : count v xs ≡ 0 = count-none v xs (λ i h s. absurd (omega (arith, apart 0 (suc i) (omega arith) (omega arith) (sym (s ∙ eqb-true v x e))))) in
     omega (arith, count-cons v x xs, ap one e))
     (λ e. omega (arith, count-cons v x xs, ap one e, count-apart xs (λ i j h k s. omega (arith, apart (suc i) (suc j) (omega arith) (omega arith) s)) v))
+
+-- ---- the numbers from i on
+
+pub rising-cons : (i n : ℕ) → rising i (suc n) ≡ i ∷ rising (suc i) n
+unfolding rising
+rising-cons i n = refl
+
+pub rising-none : (i : ℕ) → rising i 0 ≡ []
+unfolding rising
+rising-none i = refl
+
+pub length-rising : (i n : ℕ) → length (rising i n) ≡ n
+length-rising i zero = ap length (rising-none i)
+length-rising i (suc n) = ap length (rising-cons i n) ∙ ap suc (length-rising (suc i) n)
+
+pub rising-at : (i n j : ℕ) → j < n → getD (rising i n) j 0 ≡ i + j
+rising-at i zero j h = absurd (not-suc-le-zero h)
+rising-at i (suc n) zero h = rw rising-cons (omega arith)
+rising-at i (suc n) (suc j) h = rw rising-cons (omega (arith, rising-at (suc i) n j (omega arith)))
+
+-- each of them stands there once, and no other
+pub rising-once : (i n v : ℕ) → count v (rising i n) ≤ 1
+rising-once i n v =
+    count-apart (rising i n)
+    (λ j k hj hk e. omega (arith, rising-at i n j (omega (arith, length-rising i n)), rising-at i n k (omega (arith, length-rising i n)))) v
+
+pub rising-has : (i n v : ℕ) → i ≤ v → v < i + n → 1 ≤ count v (rising i n)
+rising-has i n v a b =
+    let l = length-rising i n in
+    let e : getD (rising i n) (v - i) 0 ≡ v = rising-at i n (v - i) (omega arith) ∙ omega arith in
+    rw e at (count-at (rising i n) (v - i) (omega arith))
+
+pub rising-not : (i n v : ℕ) → i + n ≤ v → count v (rising i n) ≡ 0
+rising-not i n v h = count-none v (rising i n) (λ j l e. omega (arith, length-rising i n, rising-at i n j (omega (arith, length-rising i n))))

@@ -1,8 +1,8 @@
 -- The four cells of a hash. Assumes nothing.
 use borrow.Author.Needs.{needs}
-use Rattle.peel.proofs.PlaceLaws.{positions-are}
-use Rattle.peel.proofs.positions.Statement.{statement}
-use Rattle.peel.proofs.positions.Tie as tie
+use Rattle.fuse.proofs.PositionLaws.{positions-are}
+use Rattle.fuse.proofs.positions.Statement.{statement}
+use Rattle.fuse.proofs.positions.Tie as tie
 
 cell-requires : tie.Need-cell-requires
 cell-requires c κs = search needs
