@@ -1,1 +1,2 @@
 pub mod Format
+pub mod Space

@@ -7,6 +7,7 @@ ghost use lib.ListN.{length};
 ghost use Rattle.vectors.specs.Format.{fieldOf, endOf, bytesEnd, fieldBytes, openOf, nextOf, countedOf};
 
 pub mod patch;
+pub mod space;
 
 // How many bytes stand from `at` on.
 fn room(raw: &[u8], at: usize) -> usize
@@ -191,10 +192,10 @@ impl Count {
 }
 
 // Room for a stored file on the stack. A longer file reads as damaged.
-pub fn buffer() -> [u8; 262144]
-    ensures { λ r. ⌜ 262144 ≡ length r ⌝ }
+pub fn buffer() -> [u8; 327680]
+    ensures { λ r. ⌜ 327680 ≡ length r ⌝ }
 {
-    [0; 262144]
+    [0; 327680]
 }
 
 // Prints one line: `NAME N cases, M differ`.
@@ -205,4 +206,12 @@ pub fn report(name: &[u8], count: Count) {
     io::write_all(1, b" cases, ");
     io::print_decimal(1, count.differ);
     io::write_all(1, b" differ\n");
+}
+
+// Prints one line: a name and a number.
+pub fn note(name: &[u8], number: u64) {
+    io::write_all(1, name);
+    io::write_all(1, b" ");
+    io::print_decimal(1, number);
+    io::write_all(1, b"\n");
 }

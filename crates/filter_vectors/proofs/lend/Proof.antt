@@ -1,10 +1,6 @@
 -- `lend` lends the front of each room. Assumes nothing.
-use mathlib.Core.Path.{sym}
-use Prim.Native.Nat.{ℕ, _≤_}
-use mathlib.Core.List.{List}
-use lib.ListN.{length}
-use lib.Seq.{length-take-le}
 use native.Mathlib.Omega.{arith}
+use lib.ListN.{length-take}
 use borrow.Author.Needs.{needs}
 use Rattle.filter_vectors.proofs.lend.Statement.{statement}
 use Rattle.filter_vectors.proofs.lend.Tie as tie
@@ -37,41 +33,25 @@ array-borrow-prefix-hashes : tie.Need-array-borrow-prefix-hashes
 array-borrow-prefix-hashes c = search needs
 
 slice-aggregate-built-agrees : tie.Need-slice-aggregate-built-agrees
-slice-aggregate-built-agrees c =
-    let n : ℕ = c .before .before .before .before .before .before .before .before .before .before .args .n in
-    let l : List ℕ = c .before .before .before .before .hash-room .result in
-    let h : n ≤ length l = omega (arith, c .before .before .before .before .hash-room .ensures) in
-    sym (length-take-le n l h)
+slice-aggregate-built-agrees c = simp length-take (omega (arith, c .before .before .before .before .hash-room .ensures))
 
 array-borrow-prefix-wide : tie.Need-array-borrow-prefix-wide
 array-borrow-prefix-wide c = search needs
 
 slice-aggregate-built-agrees-2 : tie.Need-slice-aggregate-built-agrees-2
-slice-aggregate-built-agrees-2 c =
-    let n : ℕ = c .before .before .before .before .before .before .before .before .before .before .before .args .w in
-    let l : List ℕ = c .before .before .before .before .wide-room .result in
-    let h : n ≤ length l = omega (arith, c .before .before .before .before .wide-room .ensures) in
-    sym (length-take-le n l h)
+slice-aggregate-built-agrees-2 c = simp length-take (omega (arith, c .before .before .before .before .wide-room .ensures))
 
 array-borrow-prefix-narrow : tie.Need-array-borrow-prefix-narrow
 array-borrow-prefix-narrow c = search needs
 
 slice-aggregate-built-agrees-3 : tie.Need-slice-aggregate-built-agrees-3
-slice-aggregate-built-agrees-3 c =
-    let n : ℕ = c .before .before .before .before .before .before .before .before .before .before .before .before .args .m in
-    let l : List ℕ = c .before .before .before .before .narrow-room .result in
-    let h : n ≤ length l = omega (arith, c .before .before .before .before .narrow-room .ensures) in
-    sym (length-take-le n l h)
+slice-aggregate-built-agrees-3 c = simp length-take (omega (arith, c .before .before .before .before .narrow-room .ensures))
 
 array-borrow-prefix-out : tie.Need-array-borrow-prefix-out
 array-borrow-prefix-out c = search needs
 
 slice-aggregate-built-agrees-4 : tie.Need-slice-aggregate-built-agrees-4
-slice-aggregate-built-agrees-4 c =
-    let n : ℕ = c .before .before .before .before .before .before .before .before .before .before .before .before .before .args .o in
-    let l : List ℕ = c .before .before .before .before .out-room .result in
-    let h : n ≤ length l = omega (arith, c .before .before .before .before .out-room .ensures) in
-    sym (length-take-le n l h)
+slice-aggregate-built-agrees-4 c = simp length-take (omega (arith, c .before .before .before .before .out-room .ensures))
 
 built-agrees-requires : tie.Need-built-agrees-requires
 built-agrees-requires c κs = search needs

@@ -1,10 +1,6 @@
 -- `made_front` lends the front of what was made. Assumes nothing.
-use mathlib.Core.Path.{sym}
-use Prim.Native.Nat.{ℕ, _≤_}
-use mathlib.Core.List.{List}
-use lib.ListN.{length}
-use lib.Seq.{length-take-le}
 use native.Mathlib.Omega.{arith}
+use lib.ListN.{length-take}
 use borrow.Author.Needs.{needs}
 use Rattle.finish_vectors.proofs.made_front.Statement.{statement}
 use Rattle.finish_vectors.proofs.made_front.Tie as tie
@@ -13,11 +9,7 @@ returns : tie.Need-returns
 returns c = search needs
 
 slice-aggregate-made-into : tie.Need-slice-aggregate-made-into
-slice-aggregate-made-into c =
-    let n : ℕ = c .before .before .before .before .args .size in
-    let l : List ℕ = c .before .before .before .before .args .made .now in
-    let h : n ≤ length l = omega arith in
-    sym (length-take-le n l h)
+slice-aggregate-made-into c = simp length-take (omega arith)
 
 made-into-requires : tie.Need-made-into-requires
 made-into-requires c κs = search needs
