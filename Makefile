@@ -15,7 +15,7 @@ CARGO = cargo build --quiet --offline --locked --manifest-path compare/Cargo.tom
 # Runs a command quietly; its output is shown where it fails.
 QUIET = mkdir -p target && quiet() { "$$@" > target/quiet.log 2>&1 || { cat target/quiet.log; exit 1; }; } && quiet
 
-.PHONY: test run wrong bindings compare compare-tool compare-files compare-hashes bench splits
+.PHONY: test run wrong bindings compare compare-tool compare-files compare-hashes bench vectors
 test:
 	@awk '{ sub(/#.*/, ""); i = index($$0, ":") } i && $$1 != "mixing:" && (substr($$0, i + 1) " ") ~ /[ \t]mixrule[ \t]/ { print "crates.txt: only mixing may list mixrule: " $$0; bad = 1 } END { exit bad }' crates.txt
 	@sh scripts/test-listing-input
@@ -55,9 +55,6 @@ bench:
 	@$(CARGO) --release
 	@target/compare/release/compare bench $(CALL)
 
-# Writes the stored vectors of each program anew.
-splits:
-	@$(QUIET) rt staticlib kiban_c
-	@$(ORACLE)
-	@$(CARGO) --profile compare
-	@target/compare/compare/compare splits
+# Writes the stored vectors anew.
+vectors: compare-tool
+	@target/compare/compare/compare vectors

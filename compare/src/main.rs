@@ -21,7 +21,7 @@ const USAGE: &str = "usage:
     compare sample DIR [KEYS]                   writes such files: a small plant, or one of so many drawn keys
     compare compare SEED CASES [CALL [JOBS]]    drawn cases of every call, or of those with CALL in their name
     compare bench [CALL]                        times
-    compare splits                              writes the stored vectors anew
+    compare vectors                             writes the stored vectors anew
     compare oracle COMMAND ..                   the old Rust alone
 It exits with 0 where nothing differs, 1 where something does, 2 where it can't run.";
 
@@ -60,7 +60,7 @@ fn command(words: &[&str]) -> Ended {
             compare(Plan { seed, cases, jobs: number(word(4), 1)? }, word(3))
         }
         ["bench", ..] => Ok(benches::run_all(word(1))),
-        ["splits"] => Ok(stored::write()),
+        ["vectors"] => Ok(stored::write()),
         ["index", index, data] => plant::index::run(index, data),
         ["hashes", hashes] => plant::hashes::run(hashes),
         ["filter", filter] => plant::filter::run(filter, None),

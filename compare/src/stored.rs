@@ -1,21 +1,10 @@
-//! The stored vectors: each program's `stdin` is the part of the oracle's vector file that has its ops.
+//! The stored vectors: the program `replay` has the oracle's vector file for its `stdin`, as it was made.
 use crate::ours;
 use crate::table::Line;
 use oracle::{paper, rp, vectors};
 use std::path::{Path, PathBuf};
 
-/// The program's crate, and its ops in VECTORS.md. An op that sets what later ops work on goes to each program that needs it.
-const SPLITS: &[(&str, &[u8])] = &[
-    ("mixing_vectors", &[0x01, 0x02, 0x03]),
-    ("builder_vectors", &[0x0f, 0x10, 0x11, 0x12, 0x13]),
-    ("finish_vectors", &[0x18, 0x19]),
-    ("point_vectors", &[0x20, 0x21, 0x22]),
-    ("listing_vectors", &[0x20, 0x23, 0x24]),
-    ("fuse_vectors", &[0x04, 0x05, 0x32, 0x33]),
-    ("filter_vectors", &[0x30, 0x31]),
-];
-
-/// The file that is split: `oracle vectors 1 FILE 1`, and the key hash of its bytes with seed 0.
+/// The file: `oracle vectors 1 FILE 1`, and the key hash of its bytes with seed 0.
 const SEED: u64 = 1;
 const SCALE: u64 = 1;
 const DIGEST: u64 = 0xc730_1944_56cc_caae;
@@ -34,19 +23,11 @@ fn cases(file: &[u8]) -> Vec<&[u8]> {
     out
 }
 
-fn split(file: &[u8], ops: &[u8]) -> Vec<u8> {
-    let picked: Vec<&[u8]> = cases(file).into_iter().filter(|c| ops.contains(&c[0])).collect();
-    let mut out = file[..8].to_vec();
-    out.extend((picked.len() as u32).to_le_bytes());
-    picked.iter().for_each(|c| out.extend(*c));
-    out
-}
-
 pub fn repository() -> &'static Path {
     Path::new(env!("CARGO_MANIFEST_DIR")).parent().unwrap()
 }
-fn place(name: &str) -> PathBuf {
-    repository().join("crates").join(name).join("stdin")
+fn place() -> PathBuf {
+    repository().join("crates/replay/stdin")
 }
 
 /// A made case of the file: its seed and size, then the number and the words it has to come to.
@@ -114,52 +95,30 @@ fn replay(file: &[u8]) -> Line {
     })
 }
 
-/// The vectors made anew, against what is stored: the cases of each program, and how many have no program yet.
+/// The vectors made anew, against the digest recorded and the file stored; then the made cases.
 pub fn check() -> Vec<Line> {
     let mut fresh = Vec::new();
-    let whole = Line::timed("vectors made anew", |line| {
-        fresh = oracle::vectors::make(SEED, SCALE);
-        let all = cases(&fresh);
-        line.cases = all.len() as u64;
-        let digest = oracle::rp::hash(&fresh, 0);
+    let anew = Line::timed("vectors made anew", |line| {
+        fresh = vectors::make(SEED, SCALE);
+        line.cases = cases(&fresh).len() as u64;
+        let digest = rp::hash(&fresh, 0);
         if digest != DIGEST {
-            line.differ = 1;
-            line.notes
-                .push(format!("another file than the one recorded: {} bytes, digest {digest:#018x}", fresh.len()));
+            line.differ += 1;
+            line.notes.push(format!("not the file recorded: {} bytes, digest {digest:#018x}", fresh.len()));
         }
-        let idle = all.iter().filter(|c| SPLITS.iter().all(|s| !s.1.contains(&c[0]))).count();
-        if idle > 0 {
-            line.notes.push(format!("{idle} of them are of ops that no program replays yet"));
+        let stored = std::fs::read(place()).unwrap_or_default();
+        if stored != fresh {
+            line.differ += 1;
+            line.notes.push(format!("{} is another file: {} bytes, wanted {}", place().display(), stored.len(), fresh.len()));
         }
     });
-    let programs = SPLITS.iter().map(|(name, ops)| {
-        Line::timed(&format!("stored {name}"), |line| {
-            let want = split(&fresh, ops);
-            let have = std::fs::read(place(name)).unwrap_or_default();
-            line.cases = cases(&want).len() as u64;
-            if want != have {
-                line.differ = 1;
-                line.notes.push(format!(
-                    "{} is not the split: {} bytes, wanted {}",
-                    place(name).display(),
-                    have.len(),
-                    want.len()
-                ));
-            }
-        })
-    });
-    let mut lines: Vec<Line> = std::iter::once(whole).chain(programs).collect();
-    lines.push(replay(&fresh));
-    lines
+    vec![anew, replay(&fresh)]
 }
 
-/// Writes each program's `stdin`.
+/// Writes the `stdin` of `replay`.
 pub fn write() -> bool {
-    let fresh = oracle::vectors::make(SEED, SCALE);
-    for (name, ops) in SPLITS {
-        let part = split(&fresh, ops);
-        std::fs::write(place(name), &part).expect("writing a split");
-        println!("crates/{name}/stdin: {} bytes, {} cases", part.len(), cases(&part).len());
-    }
+    let fresh = vectors::make(SEED, SCALE);
+    std::fs::write(place(), &fresh).expect("writing the vectors");
+    println!("crates/replay/stdin: {} bytes, {} cases", fresh.len(), cases(&fresh).len());
     true
 }

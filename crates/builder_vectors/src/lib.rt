@@ -1,6 +1,4 @@
 // Replays the vectors of the builder: ops 0f buffer, 10 add, 11 set offset, 12 look, 13 poke.
-ghost use mathlib.Core.Path.{_≡_};
-ghost use lib.ListN.{length};
 use builder::Added;
 use builder::OffsetSet;
 use builder::PointBuilder;
@@ -66,20 +64,13 @@ fn added(buffer: &mut [u8], key: &[u8], p: &[u8], at: usize) -> bool {
     answered(given, p, vectors::end_in(p, at, 12))
 }
 
-// Room for a builder buffer or a repeated key of the stored cases, full of a byte.
-pub fn room(v: u8) -> [u8; 1_048_640]
-    ensures { λ r. ⌜ 1048640 ≡ length r ⌝ }
-{
-    [v; 1_048_640]
-}
-
 // Op 10 whose key is one byte repeated: u8 value, u32 length stand at 27.
 fn repeated_agrees(buffer: &mut [u8], p: &[u8]) -> bool {
     let size = vectors::u32_in(p, 28) as usize;
     if 1_048_640 < size {
         return false;
     }
-    let key = room(vectors::u8_in(p, 27));
+    let key = vectors::space::room(vectors::u8_in(p, 27));
     added(buffer, &key[..size], p, 32)
 }
 

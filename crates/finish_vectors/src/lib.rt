@@ -35,13 +35,6 @@ fn narrow_room() -> [u32; 160008]
     [0xa5; 160008]
 }
 
-// Room for their body.
-fn out_room() -> [u8; 1006700]
-    ensures { λ r. ⌜ 1006700 ≡ length r ⌝ }
-{
-    [0xa5; 1006700]
-}
-
 // Whether an answer is this number, with a body of this size; a refusal has none.
 fn answer_is(r: Finished, number: u8, size: usize) -> bool {
     match r {
@@ -112,12 +105,12 @@ fn lend(w: usize, m: usize, o: usize, p: &[u8], answer: usize) -> bool {
     if 160008 < m {
         return false;
     }
-    if 1006700 < o {
+    if 1_048_640 < o {
         return false;
     }
     let mut wide = wide_room();
     let mut narrow = narrow_room();
-    let mut out = out_room();
+    let mut out = space::room(space::DIRTY);
     body_agrees(&mut wide[..w], &mut narrow[..m], &mut out[..o], p, answer)
 }
 
@@ -227,7 +220,7 @@ fn made_run(arena: &[u8], out: &mut [u8], p: &[u8]) -> bool {
 
 // The same, over all the output there is.
 fn made_into(arena: &[u8], p: &[u8]) -> bool {
-    let mut out = out_room();
+    let mut out = space::room(space::DIRTY);
     made_run(arena, &mut out, p)
 }
 

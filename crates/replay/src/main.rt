@@ -110,7 +110,7 @@ fn replay(file: &[u8], room: &mut [u8]) -> Groups {
 
 fn main() {
     let mut buffer = vectors::buffer();
-    let mut room = builder_vectors::room(0);
+    let mut room = vectors::space::room(0);
     let n = io::read_full(0, &mut buffer);
     let groups = replay(&buffer[..n], &mut room);
     groups.report();

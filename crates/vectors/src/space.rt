@@ -1,9 +1,17 @@
 // Space that a call is lent: what it holds before the call, and whether it holds after it what it should.
 ghost use mathlib.Core.Path.{_≡_};
+ghost use lib.ListN.{length};
 ghost use Rattle.vectors.specs.Space.{allOf};
 
 // What lent space holds before a call.
 pub const DIRTY: u8 = 0xa5;
+
+// Room for the output of finish, a builder buffer or a repeated key of the stored cases, full of v.
+pub fn room(v: u8) -> [u8; 1_048_640]
+    ensures { λ r. ⌜ 1048640 ≡ length r ⌝ }
+{
+    [v; 1_048_640]
+}
 
 // Whether every word is v.
 fn all_u64(space: &[u64], v: u64) -> bool

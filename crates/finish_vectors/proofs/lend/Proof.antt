@@ -20,8 +20,8 @@ wide-room-requires c κs = search needs
 narrow-room-requires : tie.Need-narrow-room-requires
 narrow-room-requires c κs = search needs
 
-out-room-requires : tie.Need-out-room-requires
-out-room-requires c κs = search needs
+room-requires : tie.Need-room-requires
+room-requires c κs = search needs
 
 array-borrow-prefix-wide : tie.Need-array-borrow-prefix-wide
 array-borrow-prefix-wide c = search needs
@@ -39,7 +39,7 @@ array-borrow-prefix-out : tie.Need-array-borrow-prefix-out
 array-borrow-prefix-out c = search needs
 
 slice-aggregate-body-agrees-3 : tie.Need-slice-aggregate-body-agrees-3
-slice-aggregate-body-agrees-3 c = simp length-take (omega (arith, c .before .before .before .out-room .ensures))
+slice-aggregate-body-agrees-3 c = simp length-take (omega (arith, c .before .before .before .room .ensures))
 
 body-agrees-requires : tie.Need-body-agrees-requires
 body-agrees-requires c κs = search needs
@@ -56,7 +56,7 @@ lend-spec =
     returns-3
     wide-room-requires
     narrow-room-requires
-    out-room-requires
+    room-requires
     array-borrow-prefix-wide
     slice-aggregate-body-agrees
     array-borrow-prefix-narrow

@@ -1,8 +1,8 @@
 -- `room` has its length. Assumes nothing.
 use mathlib.Core.Path.{sym}
 use lib.ListN.{length-replicate}
-use Rattle.builder_vectors.proofs.room.Statement.{statement}
-use Rattle.builder_vectors.proofs.room.Tie as tie
+use Rattle.vectors.proofs.space.room.Statement.{statement}
+use Rattle.vectors.proofs.space.room.Tie as tie
 
 returns : tie.Need-returns
 returns c = sym (length-replicate 1048640 (c .args .v))
