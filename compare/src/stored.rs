@@ -109,7 +109,12 @@ pub fn check() -> Vec<Line> {
         let stored = std::fs::read(place()).unwrap_or_default();
         if stored != fresh {
             line.differ += 1;
-            line.notes.push(format!("{} is another file: {} bytes, wanted {}", place().display(), stored.len(), fresh.len()));
+            line.notes.push(format!(
+                "{} is another file: {} bytes, wanted {}",
+                place().display(),
+                stored.len(),
+                fresh.len()
+            ));
         }
     });
     vec![anew, replay(&fresh)]
