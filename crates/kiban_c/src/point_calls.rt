@@ -33,10 +33,7 @@ fn limit_given(limited: u8, limit: u64) -> Limit
 fn kind_number(kind: Kind) -> u64
     ensures { λ r. ⌜ r ≡ kindByte kind ⌝ }
 {
-    match kind {
-        Kind::Put => 1,
-        Kind::Tombstone => 2,
-    }
+    kind.byte() as u64
 }
 
 // The key's record within the limit: 0 found, with its four words in front of `answer`, 1 nothing, or the refusal; 6 first for an answer under

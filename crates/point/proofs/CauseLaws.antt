@@ -34,7 +34,7 @@ use Rattle.point.specs.Layout.{seedIn, keysIn, bucketsIn, arenaIn, magic
 use Rattle.point.specs.Validate.{pilotsRefusal, slotCauses, slotTest, slotRefusal, arenaRefusal, validationRefusal, validateOf, verdict}
 use Rattle.point.specs.Get.{locateHash, locateOf, openRecordOf, openAt, openOf, firstOfAll, firstFor, answerOf, getOf}
 use Rattle.point.specs.Table.{keySlot}
-use Rattle.point.proofs.GetLaws.{locate-refused, record-short, record-cut, answer-past}
+use Rattle.point.proofs.GetLaws.{locate-refused, record-same, answer-past}
 use Rattle.point.specs.Causes.{ValidationStops, Leads, Opens, VersionDamaged, DamageMet}
 use Rattle.point.specs.Causes.ValidationStops.{magic-wrong, dimensions-wrong, pilot-past, arena-stops}
 use Rattle.point.specs.Causes.VersionDamaged.{outside, bad-kind, later}
@@ -337,18 +337,25 @@ module _ (body : List ℕ) (size : ℕ) (key : List ℕ) (limit : Limit) where
   unfolding openOf
   open-at p e = rw e
 
+  head-outside : (p : ℕ) → length body < p + 8 → openRecordOf body p key ≡ opened.Damaged
+  unfolding openRecordOf
+  head-outside p h = rw (lt-ltb (length body) (p + 8) h)
+
+  past-head : (p : ℕ) → p + 8 ≤ length body → length body < firstVersion body p → openRecordOf body p key ≡ opened.Damaged
+  unfolding openRecordOf
+  past-head p h q = rw (le-ltb (length body) (p + 8) h, lt-ltb (length body) (firstVersion body p) q)
+
   short-record : (p : ℕ) → Leads body key p → length body < p + 8 → openOf body key ≡ opened.Damaged
   short-record p l h = go (ltb (length body) p) refl
     where
       go : (b : Bool) → ltb (length body) p ≡ b → openOf body key ≡ opened.Damaged
       go true q = damaged-location (leads-out p l (ltb-true _ _ q))
-      go false q = open-at p (leads-at p l (ltb-false _ _ q)) ∙ record-short body key p h
+      go false q = open-at p (leads-at p l (ltb-false _ _ q)) ∙ head-outside p h
 
   opens-at : (p : ℕ) → Opens body key p → openOf body key ≡ opened.Open (here p)
-  unfolding openRecordOf
   opens-at p o =
       let w = o .whole in
-      open-at p (leads-at p (o .leads) (omega arith)) ∙ rw (le-ltb (length body) (p + 8) (omega arith), le-ltb (length body) (firstVersion body p) w, o .same)
+      open-at p (leads-at p (o .leads) (omega arith)) ∙ record-same body key p w (o .same)
 
   version-refused : (p : ℕ) → Opens body key p → VersionDamaged body limit (firstVersion body p) (versionCount body p) → getOf body size key limit ≡ Refused 14
   unfolding getOf answerOf
@@ -364,6 +371,6 @@ module _ (body : List ℕ) (size : ℕ) (key : List ℕ) (limit : Limit) where
   cause-get (header-damaged n) = opening-refused (damaged-location (locate-refused body key (headerRefusal body) refl n))
   cause-get (pilot-damaged h q) = opening-refused (damaged-location (past-damaged h q))
   cause-get (record-outside p l h) = opening-refused (short-record p l h)
-  cause-get (key-outside p l h q) = opening-refused (open-at p (leads-at p l (omega arith)) ∙ record-cut body key p _ h refl q)
+  cause-get (key-outside p l h q) = opening-refused (open-at p (leads-at p l (omega arith)) ∙ past-head p h q)
   cause-get (version-damaged p o v) = version-refused p o v
   cause-get (value-outside r e h) = ap (answerOf size) e ∙ answer-past size _ r refl _ refl (lt-ltb size (r .offset + r .length) h)

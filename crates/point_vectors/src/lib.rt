@@ -1,7 +1,6 @@
 // Replays the vectors of reading: ops 20 body, 21 validate, 22 get with its value.
 use point::Answer;
 use point::Validated;
-use records::Kind;
 use records::Limit;
 use records::Record;
 use vectors::Count;
@@ -53,20 +52,12 @@ fn limit_in(p: &[u8], at: usize) -> Limit
     Limit::UpTo(vectors::u64_in(p, at + 1))
 }
 
-// A kind's byte.
-fn kind_byte(kind: Kind) -> u8 {
-    match kind {
-        Kind::Put => Kind::PUT,
-        Kind::Tombstone => Kind::TOMBSTONE,
-    }
-}
-
 // The record whose kind, sequence, offset and length stand at a place.
 fn record_agrees(r: Record, p: &[u8], at: usize) -> bool
     requires { ⌜ at + 25 ≤ length (now p) ⌝ }
 {
     let kind = r.kind;
-    if kind_byte(kind) != vectors::u8_in(p, at) {
+    if kind.byte() != vectors::u8_in(p, at) {
         return false;
     }
     if r.sequence != vectors::u64_in(p, at + 1) {
