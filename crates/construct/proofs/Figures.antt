@@ -1,6 +1,6 @@
 -- Small cases, computed from the definitions; what buckets and positions the hashes have is given. Assumes nothing.
 use Prim.Native.Nat.{ℕ}
-use mathlib.Core.Path.{_≡_, refl}
+use mathlib.Core.Path.{_≡_}
 use mathlib.Core.List.{[], _∷_}
 use mathlib.Core.Option.{none, some, bind}
 use native.Mathlib.Omega.{arith}
