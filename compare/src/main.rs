@@ -1,6 +1,7 @@
-//! The Rattle code beside the Rust. `compare SEED CASES [CALL]`, `bench [CALL]`, `splits`, `oracle COMMAND ..`: see README.md.
+//! The Rattle code beside the Rust. `compare SEED CASES [CALL]`, `bench [CALL|plot]`, `stack`, `splits`, `oracle COMMAND ..`: see README.md.
 mod benches;
 mod calls;
+mod stack;
 mod stored;
 mod table;
 mod tables;
@@ -36,6 +37,7 @@ fn main() -> ExitCode {
     let fine = match only(1) {
         "compare" => compare(number(args.get(2), 1), number(args.get(3), 100_000), only(4)),
         "bench" => benches::run_all(only(2)),
+        "stack" => stack::run_all(),
         "splits" => stored::write(),
         "oracle" => {
             oracle::command::run(&args[2..]);
