@@ -51,7 +51,7 @@ stack:
 	@sh scripts/stack-programs
 
 # The comparison, the C example and the package's tests under valgrind and sanitizers; ROBUST_CASES takes some five minutes.
-ROBUST_CASES ?= 200
+ROBUST_CASES ?= 10000
 robust:
 	@$(QUIET) rt staticlib kiban_c
 	@$(ORACLE)

@@ -28,11 +28,12 @@ fn depth<F: FnMut()>(stack: &mut [u64], mut work: F) -> usize {
     top - (stack.as_ptr() as usize + 8 * untouched)
 }
 
-/// The deepest of a call's inputs.
+/// The deepest of a call's inputs, and the shallowest.
 struct Worst {
     call: &'static str,
     inputs: usize,
     bytes: usize,
+    least: usize,
     input: String,
 }
 
@@ -54,10 +55,11 @@ impl Depths {
         let bytes = depth(&mut self.stack, work) - self.entering;
         let at = self.rows.iter().position(|r| r.call == call).unwrap_or(self.rows.len());
         if at == self.rows.len() {
-            self.rows.push(Worst { call, inputs: 0, bytes: 0, input: String::new() });
+            self.rows.push(Worst { call, inputs: 0, bytes: 0, least: usize::MAX, input: String::new() });
         }
         let row = &mut self.rows[at];
         row.inputs += 1;
+        row.least = row.least.min(bytes);
         if row.bytes < bytes {
             (row.bytes, row.input) = (bytes, input.into());
         }
@@ -221,7 +223,8 @@ pub fn run_all() -> bool {
     filters(&mut d);
     listings(&mut d);
     println!("{:<22} {:>8} {:>8}  deepest at", "call", "bytes", "inputs");
-    for Worst { call, inputs, bytes, input } in &d.rows {
+    for Worst { call, inputs, bytes, least, input } in &d.rows {
+        let input = if least == bytes { "every input" } else { input };
         println!("{call:<22} {bytes:>8} {inputs:>8}  {input}");
     }
     true
