@@ -5,13 +5,17 @@ DOCS_SRC ?= ../shared/docs/src
 CASES ?= 100000
 SEED ?= 1
 CALL ?=
+JOBS ?= 1
+INDEX ?=
+DATA ?=
+HASHES ?=
 
 ORACLE = sh compare/oracle/make-oracle.sh $(DOCS_SRC) target/oracle
 CARGO = cargo build --quiet --offline --locked --manifest-path compare/Cargo.toml --target-dir target/compare
 # Runs a command quietly; its output is shown where it fails.
 QUIET = mkdir -p target && quiet() { "$$@" > target/quiet.log 2>&1 || { cat target/quiet.log; exit 1; }; } && quiet
 
-.PHONY: test run bindings compare bench speed stack robust splits
+.PHONY: test run wrong bindings compare compare-tool compare-files compare-hashes bench speed stack robust splits
 test:
 	@awk '{ sub(/#.*/, ""); i = index($$0, ":") } i && $$1 != "mixing:" && (substr($$0, i + 1) " ") ~ /[ \t]mixrule[ \t]/ { print "crates.txt: only mixing may list mixrule: " $$0; bad = 1 } END { exit bad }' crates.txt
 	@sh scripts/test-listing-input
@@ -21,22 +25,34 @@ run:
 	@$(QUIET) rt check listing
 	@target/bin/listing < crates/listing/stdin
 
+wrong:
+	@sh scripts/try-wrong
+
 bindings:
 	@$(QUIET) rt staticlib kiban_c
 	@sh scripts/bindings
 
-# With CALL, that call alone.
-compare:
+compare-tool:
 	@$(QUIET) rt staticlib kiban_c
-	@$(if $(CALL),:,sh scripts/bindings)
 	@$(ORACLE)
 	@$(CARGO) --profile compare
-	@target/compare/compare/compare compare $(SEED) $(CASES) $(CALL)
+
+# With CALL, that call alone.
+compare: compare-tool
+	@$(if $(CALL),:,sh scripts/bindings)
+	@target/compare/compare/compare compare $(SEED) $(CASES) "$(CALL)" $(JOBS)
+
+# An index of the plant and its data, or hashes of it, on both sides.
+compare-files: compare-tool
+	@target/compare/compare/compare index "$(INDEX)" "$(DATA)"
+
+compare-hashes: compare-tool
+	@target/compare/compare/compare hashes "$(HASHES)"
 
 RELEASE = $(QUIET) rt staticlib kiban_c && $(ORACLE) && $(CARGO) --release
 bench:
 	@$(RELEASE)
-	@target/compare/release/compare bench $(CALL)
+	@target/compare/release/compare bench "$(CALL)"
 
 # The figures of docs/SPEED.md made anew: its table, and its plot. For a machine that does nothing else.
 speed: bench
@@ -51,11 +67,8 @@ stack:
 	@sh scripts/stack-programs
 
 # The comparison, the C example and the package's tests under valgrind and sanitizers; ROBUST_CASES takes some five minutes.
-ROBUST_CASES ?= 10000
-robust:
-	@$(QUIET) rt staticlib kiban_c
-	@$(ORACLE)
-	@$(CARGO) --profile compare
+ROBUST_CASES ?= 20000
+robust: compare-tool
 	@sh scripts/robust $(SEED) $(ROBUST_CASES)
 
 # Writes the stored vectors of each program anew.

@@ -1,4 +1,5 @@
 //! The table that is printed: one line a call.
+use std::collections::BTreeMap;
 use std::time::Instant;
 
 /// What was compared under one name.
@@ -9,11 +10,13 @@ pub struct Line {
     pub seconds: f64,
     /// What is to be said of it: the first cases that differ, or why there is none.
     pub notes: Vec<String>,
+    /// How often each number was answered.
+    pub numbers: BTreeMap<u64, u64>,
 }
 
 impl Line {
     pub fn new(name: &str) -> Self {
-        Line { name: name.into(), cases: 0, differ: 0, seconds: 0.0, notes: Vec::new() }
+        Line { name: name.into(), cases: 0, differ: 0, seconds: 0.0, notes: Vec::new(), numbers: BTreeMap::new() }
     }
     /// A line that a piece of work fills, timed.
     pub fn timed(name: &str, work: impl FnOnce(&mut Line)) -> Self {
@@ -33,6 +36,14 @@ impl Line {
             }
         }
     }
+    /// Adds what another thread counted; three notes are kept.
+    pub fn merge(&mut self, other: Line) {
+        self.cases += other.cases;
+        self.differ += other.differ;
+        self.notes.extend(other.notes);
+        self.notes.truncate(3);
+        other.numbers.into_iter().for_each(|(n, times)| *self.numbers.entry(n).or_insert(0) += times);
+    }
 }
 
 fn short(text: String) -> String {
@@ -46,17 +57,19 @@ fn short(text: String) -> String {
 pub struct Table {
     pub cases: u64,
     pub differ: u64,
+    pub numbers: BTreeMap<u64, u64>,
 }
 
 impl Table {
     pub fn new(head: &[&str; 4]) -> Self {
         println!("{:<24} {:>10} {:>8} {:>8}", head[0], head[1], head[2], head[3]);
-        Table { cases: 0, differ: 0 }
+        Table { cases: 0, differ: 0, numbers: BTreeMap::new() }
     }
     pub fn add(&mut self, line: Line) {
         println!("{:<24} {:>10} {:>8} {:>8.1}", line.name, line.cases, line.differ, line.seconds);
         line.notes.iter().for_each(|n| println!("    {n}"));
         self.cases += line.cases;
         self.differ += line.differ;
+        line.numbers.into_iter().for_each(|(n, times)| *self.numbers.entry(n).or_insert(0) += times);
     }
 }

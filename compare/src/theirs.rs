@@ -1,7 +1,8 @@
 //! The Rust, one function for each of ours, with the paper's refusals where the Rust has none and those of the boundary
 //! (DECISIONS.md): a short answer 6, a short state 1, a bad kind 28. Not inlined, as a call of ours can't be.
-use oracle::lines::{get_both, rust_finish_arena};
-use oracle::{data, paper, rf, rp};
+use oracle::lines::rust_finish_arena;
+use oracle::{data, hex, paper, rf, rp};
+use std::sync::Arc;
 
 /// Values to be added: only their length matters.
 static VALUE: [u8; 16_777_217] = [0; 16_777_217];
@@ -104,20 +105,74 @@ pub fn finish(arena: &[u8], out: usize, wide: usize, narrow: usize, answers: usi
 pub fn validate(body: &[u8], data: u64) -> u64 {
     if data <= 1 << 30 { rp::validate_number(body, data as usize) as u64 } else { paper::validate(body, data) as u64 }
 }
-/// Kind, sequence, offset and length, or 1 for nothing, or 14: the Rust's, with the paper's offset; the paper's 14 where
-/// the Rust goes on with a direct pilot at or past n.
+/// The Rust on one body beside its data: validated once, asked often.
+pub struct Reader<'a> {
+    body: &'a [u8],
+    data: Arc<[u8]>,
+    /// The number of the Rust's validation; 0 for accepted.
+    pub number: u64,
+    /// None where its decode refuses the header or the dimensions.
+    index: Option<rp::Prepared>,
+}
+/// Kind, sequence, offset and length, and the value; or 1 for nothing, or 14.
+pub type Got = Result<([u64; 4], Vec<u8>), u64>;
+
+impl<'a> Reader<'a> {
+    pub fn new(body: &'a [u8], data: Arc<[u8]>) -> Self {
+        let number = rp::validate_number(body, data.len()) as u64;
+        let index = (number != 20 && number != 21).then(|| rp::Prepared::new(body, data.clone()));
+        Reader { body, data, number, index }
+    }
+    /// The Rust's answer; 14 where its decode refuses the header or the dimensions, or its get panics. Its answer has no
+    /// offset: the paper's stands there if the value lies at it, else 2^64 - 1, which no answer can hold.
+    pub fn get(&self, key: &[u8], limit: Option<u64>) -> Got {
+        let paper = paper::get(self.body, self.data.len() as u64, key, limit);
+        if self.reads_on(&paper) {
+            return Err(14);
+        }
+        match self.index.as_ref().map_or(rp::Got::Refused, |index| index.get(key, limit)) {
+            rp::Got::Nothing => Err(1),
+            rp::Got::Refused | rp::Got::Panicked => Err(14),
+            rp::Got::Found(kind, sequence, value) => {
+                let offset = match paper {
+                    paper::Answer::Found { offset, .. } if self.lies_at(offset, &value) => offset,
+                    _ => u64::MAX,
+                };
+                Ok(([kind.to_u8() as u64, sequence, offset, value.len() as u64], value))
+            }
+        }
+    }
+    /// Whether the Rust may read on with a direct pilot at or past n, so that the paper's 14 stands alone.
+    fn reads_on(&self, paper: &paper::Answer) -> bool {
+        self.number == 22 && *paper == paper::Answer::Damage
+    }
+    fn lies_at(&self, offset: u64, value: &[u8]) -> bool {
+        self.data.get(offset as usize..).is_some_and(|rest| rest.starts_with(value))
+    }
+    /// The listing, rendered from the validation, and the get of each key with no limit and with the limit.
+    pub fn listing(&self, limit: u64) -> String {
+        if self.number != 0 {
+            return format!("refused {}\n", self.number);
+        }
+        let arena = &self.body[word(self.body, 24) as usize..];
+        let heads = paper::walk(arena, 0, None, None, &mut |_, _| true).map_or(Vec::new(), |w| w.0);
+        let lines: Vec<String> =
+            heads.iter().filter_map(|&head| self.listed(paper::key_at(arena, head), limit)).collect();
+        format!("limit {limit} keys {} shown {}\n{}", heads.len(), lines.len(), lines.concat())
+    }
+    fn listed(&self, key: &[u8], limit: u64) -> Option<String> {
+        let ([newest, ..], _) = self.get(key, None).ok()?;
+        let ([kind, sequence, offset, length], _) = self.get(key, Some(limit)).ok()?;
+        let kind = if kind == 1 { "put" } else { "tomb" };
+        (newest == 1).then(|| format!("{} {sequence} {kind} {offset} {length}\n", hex(key)))
+    }
+}
+/// Kind, sequence, offset and length, or 1 for nothing, or 14, on the data that the tests use.
 pub fn get(body: &[u8], length: u64, key: &[u8], limit: Option<u64>, answers: usize) -> Result<[u64; 4], u64> {
     if answers < 4 {
         return Err(6);
     }
-    let (answer, rust) = get_both(body, data(length as usize), key, limit);
-    let past = answer == paper::Answer::Damage && rp::validate_number(body, length as usize) == 22;
-    assert!(rust == "same" || past, "the paper says {answer:?}, the {rust}");
-    match answer {
-        paper::Answer::Nothing => Err(1),
-        paper::Answer::Damage => Err(14),
-        paper::Answer::Found { kind, seq, offset, length } => Ok([kind as u64, seq, offset, length]),
-    }
+    Reader::new(body, data(length as usize)).get(key, limit).map(|found| found.0)
 }
 /// The Rust's filter; the hashes are sorted unless it is refused.
 pub fn filter_build(
@@ -143,24 +198,22 @@ pub fn filter_build(
     }
     Ok(rf::Filter::build(hashes).encode())
 }
-pub fn filter_accepted(bytes: &[u8]) -> bool {
-    rf::Filter::decode(bytes).is_some()
-}
-/// Of an accepted filter: 0 Positive or 1 Fuse, keys, seed, segment, count, cells; zeros after 0.
-pub fn filter_fields(bytes: &[u8]) -> [u64; 6] {
-    match rf::Filter::decode(bytes).expect("accepted").dims() {
+/// 0 Positive or 1 Fuse, keys, seed, segment, count, cells; zeros after 0. None where the bytes are not accepted.
+pub fn filter_fields(bytes: &[u8]) -> Option<[u64; 6]> {
+    rf::Filter::decode(bytes).map(|filter| match filter.dims() {
         None => [0; 6],
         Some((segment, count, cells, seed, keys)) => [1, keys, seed, segment as u64, count as u64, cells as u64],
-    }
+    })
 }
-pub fn filter_ask(bytes: &[u8], hash: u64) -> u64 {
-    rf::Filter::decode(bytes).map_or(15, |f| f.maybe(hash) as u64)
+/// 0 absent or 1 maybe for each hash. None where the bytes are not accepted.
+pub fn filter_asks(bytes: &[u8], hashes: &[u64]) -> Option<Vec<u64>> {
+    let filter = rf::Filter::decode(bytes)?;
+    Some(hashes.iter().map(|&h| filter.maybe(h) as u64).collect())
 }
-/// The listing, rendered from the Rust's answers: its validation, and its get of each key with no limit and with the limit.
-/// The paper's where the data is longer than a slice that can be lent here.
+/// The listing, rendered from the Rust's answers; the paper's where the data is longer than a slice that can be lent here.
 pub fn listing(input: &[u8], out: usize, answers: usize) -> Result<String, u64> {
     let text = if (16..=65_536).contains(&input.len()) && word(input, 8) <= 1 << 24 {
-        rendered(word(input, 0), word(input, 8), &input[16..])
+        Reader::new(&input[16..], data(word(input, 8) as usize)).listing(word(input, 0))
     } else {
         paper::listing(input)
     };
@@ -168,24 +221,4 @@ pub fn listing(input: &[u8], out: usize, answers: usize) -> Result<String, u64> 
 }
 fn word(bytes: &[u8], at: usize) -> u64 {
     u64::from_le_bytes(bytes[at..at + 8].try_into().expect("eight bytes"))
-}
-fn rendered(limit: u64, data: u64, body: &[u8]) -> String {
-    let number = validate(body, data);
-    if number != 0 {
-        return format!("refused {number}\n");
-    }
-    let arena = &body[word(body, 24) as usize..];
-    let heads = paper::walk(arena, 0, None, None, &mut |_, _| true).expect("accepted").0;
-    let keys = heads.len();
-    let line = |head| {
-        let key = paper::key_at(arena, head);
-        let [newest, ..] = get(body, data, key, None, 4).expect("a key of the body");
-        let [kind, sequence, offset, length] = get(body, data, key, Some(limit), 4).ok()?;
-        let hex: String = key.iter().map(|b| format!("{b:02x}")).collect();
-        let name = if key.is_empty() { "-" } else { &hex };
-        let kind = if kind == 1 { "put" } else { "tomb" };
-        (newest == 1).then(|| format!("{name} {sequence} {kind} {offset} {length}\n"))
-    };
-    let lines: Vec<String> = heads.into_iter().filter_map(line).collect();
-    format!("limit {limit} keys {keys} shown {}\n{}", lines.len(), lines.concat())
 }

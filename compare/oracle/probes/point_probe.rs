@@ -45,14 +45,22 @@ impl Legacy {
     pub fn range(&self) -> (usize, u64, u64) {
         (self.0.versions, self.0.min_seq, self.0.max_seq)
     }
+    /// The index with its five trailer bytes, as the store writes it.
+    pub fn finish_file(self) -> Result<Vec<u8>, String> {
+        self.0.finish_legacy().map_err(|e| e.to_string())
+    }
     /// The index without its five trailer bytes: a body.
     pub fn finish(self) -> Result<Vec<u8>, String> {
-        let mut b = self.0.finish_legacy().map_err(|e| e.to_string())?;
+        let mut b = self.finish_file()?;
         b.truncate(b.len() - 5);
         Ok(b)
     }
 }
 
+/// What verify_trailer says of an index with its trailer; nothing where it accepts.
+pub fn trailer_message(file: &[u8]) -> Option<String> {
+    super::super::reader::verify_trailer(file, "point index").err().map(|e| e.to_string())
+}
 fn with_trailer(body: &[u8]) -> Vec<u8> {
     let mut b = body.to_vec();
     b.push(0);

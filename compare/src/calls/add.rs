@@ -60,7 +60,6 @@ impl Call for Add {
     type Case = Case;
     type Answer = Answer;
     const NAME: &'static str = "kiban_add";
-    const ONE_IN: u64 = 4;
     const MET: &'static [u64] = &[0, 1, 2, 3, 4, 5, 6, 28];
 
     fn fixed() -> Vec<Case> {

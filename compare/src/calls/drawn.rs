@@ -1,7 +1,9 @@
 //! What several calls draw: record lists, their bodies, whole and damaged; hashes; lengths; lent memory that isn't zero.
 use oracle::check::{damage, random_list};
-use oracle::lines::{Rec, rust_builder, rust_finish, rust_finish_arena};
+use oracle::lines::{Rec, rust_builder, rust_finish};
 use oracle::{Rng, hunt, paper};
+use std::cell::RefCell;
+use std::rc::Rc;
 
 /// The data length that the example's records need.
 pub const EXAMPLE_DATA: u64 = 116;
@@ -75,12 +77,29 @@ pub fn arena(r: &mut Rng) -> Vec<u8> {
     }
 }
 
-/// A body that finish made, the length of its data, and its records.
-pub fn body(r: &mut Rng) -> (Vec<u8>, u64, Vec<Rec>) {
+/// A body, the length of its data, and its records.
+type Made = (Vec<u8>, u64, Rc<[Rec]>);
+thread_local! { static LAST: RefCell<Option<Made>> = const { RefCell::new(None) }; }
+
+/// Forgets the last body, so that a block's cases hang on its generator alone.
+pub fn forget() {
+    LAST.set(None);
+}
+/// A body that finish made: a new one in one case of four, else the last one again (making one takes most of a case's time).
+pub fn body(r: &mut Rng) -> Made {
+    let again = r.below(4) > 0;
+    if let Some(last) = LAST.with_borrow(|last| last.clone().filter(|_| again)) {
+        return last;
+    }
+    let made = new_body(r);
+    LAST.set(Some(made.clone()));
+    made
+}
+fn new_body(r: &mut Rng) -> Made {
     loop {
         let (recs, data) = list(r);
-        if let Ok(body) = rust_finish_arena(rust_builder(&recs).unwrap().arena()) {
-            return (body, data, recs);
+        if let Ok(body) = rust_finish(&recs) {
+            return (body, data, recs.into());
         }
     }
 }
@@ -94,7 +113,7 @@ fn spliced(r: &mut Rng, body: &[u8]) -> Vec<u8> {
 }
 
 /// The same, damaged three times in four.
-pub fn any_body(r: &mut Rng) -> (Vec<u8>, u64, Vec<Rec>) {
+pub fn any_body(r: &mut Rng) -> Made {
     let (body, data, recs) = body(r);
     let seen = if r.below(4) == 0 { r.below(data + 2) } else { data };
     let body = match r.below(8) {

@@ -41,7 +41,7 @@ impl Call for FilterBuild {
     type Case = Case;
     type Answer = Answer;
     const NAME: &'static str = "kiban_filter_build";
-    const ONE_IN: u64 = 50;
+    const ONE_IN: u64 = 10;
     const MET: &'static [u64] = &[0, 6, 9, 12];
 
     /// No hash, few, as many as there may be, one more; lengths one short; equal hashes; both ends of every row of the sizes;

@@ -1,125 +1,54 @@
-//! kiban_filter_read, kiban_filter_ask and kiban_filter_ask_all on one filter.
-use super::{Call, drawn};
+//! kiban_filter_read.
+use super::{Call, drawn, filters};
 use crate::{ours, theirs};
-use oracle::{Rng, rf};
+use oracle::Rng;
 
 pub struct FilterRead;
 
 #[derive(Debug)]
 pub struct Case {
     pub bytes: Vec<u8>,
-    pub hashes: Vec<u64>,
     pub answers: usize,
-    pub asked: usize,
 }
 
 #[derive(Debug, PartialEq)]
 pub struct Answer {
     pub number: u64,
     pub answer: Vec<u64>,
-    pub each: Vec<u64>,
-    pub all: u64,
-    pub all_answers: Vec<u8>,
-}
-
-fn damaged(r: &mut Rng, bytes: &mut Vec<u8>) {
-    let fields = [0u32, 1, 2, 3, 262_144, 524_288, u32::MAX, 1 << 31];
-    match r.below(10) {
-        0 => bytes[r.below(48) as usize] ^= 1 << r.below(8),
-        1 => bytes.truncate(r.below(bytes.len() as u64 + 1) as usize),
-        2 => bytes.push(0),
-        3 => {
-            let at = 16 + 4 * r.below(8) as usize;
-            bytes[at..at + 4].copy_from_slice(&fields[r.below(8) as usize].to_le_bytes());
-        }
-        _ => {}
-    }
-}
-
-/// A Fuse header with these fields, and so many cells.
-fn fuse(keys: u64, segment: u32, count: u64, cells: u32, again: u32, length: usize) -> Vec<u8> {
-    let mut bytes = b"KIBANFL2\x01\x02\x01\x08\x30\0\0\0".to_vec();
-    bytes.extend(keys.to_le_bytes());
-    bytes.extend(7u64.to_le_bytes());
-    [segment, count as u32, cells, again].iter().for_each(|x| bytes.extend(x.to_le_bytes()));
-    bytes.extend((0..length).map(|i| oracle::paper::mix(i as u64) as u8));
-    bytes
 }
 
 impl Call for FilterRead {
     type Case = Case;
     type Answer = Answer;
-    const NAME: &'static str = "kiban_filter_read, ask";
-    const ONE_IN: u64 = 20;
+    const NAME: &'static str = "kiban_filter_read";
+    const ONE_IN: u64 = 4;
     const MET: &'static [u64] = &[0, 6, 15];
 
-    /// Positive, whole and with a cell; Fuse at each edge of its fields, and one past it; answers too short.
     fn fixed() -> Vec<Case> {
-        let positive = oracle::paper::positive();
-        let most = u32::MAX as u64;
-        let fuses = [
-            (1, 1, 1, 4, 4, 4),
-            (0, 1, 1, 4, 4, 4),
-            (most, 1, 1, 4, 4, 4),
-            (most + 1, 1, 1, 4, 4, 4),
-            (u64::MAX, 1, 1, 4, 4, 4),
-            (1, 1, 0, 3, 3, 3),
-            (1, 1, 1, 4, 5, 4),
-            (1, 1, 1, 5, 4, 4),
-            (1, 1, 1, 4, 4, 3),
-            (1, 1, 1, 4, 4, 5),
-            (1, 0, 1, 0, 0, 0),
-            (1, 3, 1, 12, 12, 12),
-            (1, 6, 2, 30, 30, 30),
-            (1, 262_144, 1, 1 << 20, 1 << 20, 1 << 20),
-            (1, 524_288, 1, 1 << 21, 1 << 21, 1 << 21),
-            (1, 262_144, 16_381, 0, 0, 0),
-            (1, 1, most, 2, 2, 2),
-            (1, 1 << 31, 1, 0, 0, 0),
-        ];
-        let fuses =
-            fuses.map(|(keys, segment, count, cells, again, length)| fuse(keys, segment, count, cells, again, length));
-        let ask = |bytes, answers, asked| Case { bytes, hashes: vec![0, 1, u64::MAX], answers, asked };
-        let short = [ask(positive.clone(), 5, 3), ask(positive.clone(), 6, 2)];
-        let bytes = [positive.clone(), [positive, vec![0]].concat(), Vec::new()].into_iter().chain(fuses);
-        bytes.map(|bytes| ask(bytes, 6, 3)).chain(short).collect()
+        let short = (0..8).map(|answers| Case { bytes: oracle::paper::positive(), answers });
+        filters::fixed().into_iter().map(|bytes| Case { bytes, answers: 6 }).chain(short).collect()
     }
     fn draw(r: &mut Rng) -> Case {
-        let mut hashes = drawn::hashes(r);
-        let mut bytes = rf::Filter::build(&mut hashes).encode();
-        damaged(r, &mut bytes);
-        hashes.truncate(10);
-        (0..8).for_each(|_| hashes.push(r.next()));
-        let answers = if r.below(40) == 0 { r.below(6) as usize } else { 6 };
-        Case { bytes, asked: drawn::around(r, hashes.len()), hashes, answers }
+        let (bytes, _) = filters::draw(r);
+        Case { bytes, answers: if r.below(40) == 0 { r.below(6) as usize } else { 6 + r.below(2) as usize } }
     }
     fn ours(c: &Case) -> Answer {
         let mut answer = vec![drawn::FILL_WIDE; c.answers];
-        let mut all_answers = vec![drawn::FILL; c.asked];
-        Answer {
-            number: ours::filter_read(&c.bytes, &mut answer),
-            each: c.hashes.iter().map(|&h| ours::filter_ask(&c.bytes, h)).collect(),
-            all: ours::filter_ask_all(&c.bytes, &c.hashes, &mut all_answers),
-            answer,
-            all_answers,
-        }
+        Answer { number: ours::filter_read(&c.bytes, &mut answer), answer }
     }
     fn theirs(c: &Case) -> Answer {
         let mut answer = vec![drawn::FILL_WIDE; c.answers];
-        let mut all_answers = vec![drawn::FILL; c.asked];
-        let each: Vec<u64> = c.hashes.iter().map(|&h| theirs::filter_ask(&c.bytes, h)).collect();
-        let refused = if theirs::filter_accepted(&c.bytes) { 0 } else { 15 };
-        let number = if c.answers < 6 { 6 } else { refused };
-        if number == 0 {
-            answer[..6].copy_from_slice(&theirs::filter_fields(&c.bytes));
-        }
-        let all = if c.asked < c.hashes.len() { 6 } else { refused };
-        if all == 0 {
-            each.iter().zip(&mut all_answers).for_each(|(e, a)| *a = *e as u8);
-        }
-        Answer { number, answer, each, all, all_answers }
+        let number = match theirs::filter_fields(&c.bytes) {
+            _ if c.answers < 6 => 6,
+            None => 15,
+            Some(fields) => {
+                answer[..6].copy_from_slice(&fields);
+                0
+            }
+        };
+        Answer { number, answer }
     }
     fn numbers(a: &Answer) -> Vec<u64> {
-        vec![a.number, a.all]
+        vec![a.number]
     }
 }

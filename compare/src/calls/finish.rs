@@ -46,7 +46,7 @@ impl Call for Finish {
     type Case = Case;
     type Answer = Answer;
     const NAME: &'static str = "kiban_finish";
-    const ONE_IN: u64 = 50;
+    const ONE_IN: u64 = 10;
     const MET: &'static [u64] = &[0, 5, 6, 8, 9, 10];
 
     /// No key, one, as many as there may be, one more; lengths one short; keys for each attempt, and for none.

@@ -24,8 +24,9 @@ impl Call for Get {
     type Case = Case;
     type Answer = Answer;
     const NAME: &'static str = "kiban_get";
-    const ONE_IN: u64 = 10;
+    const ONE_IN: u64 = 2;
     const MET: &'static [u64] = &[0, 1, 6, 14];
+    const PLAIN: &'static [u64] = &[0, 1];
 
     fn fixed() -> Vec<Case> {
         let ask = |body: &[u8], key: &[u8], limit, answers| Case {

@@ -59,7 +59,7 @@ fn changed(r: &mut Rng, step: &mut Step) {
         Step::SetOffset { past, .. } => *past = [1, 8, u64::MAX, r.next()][r.below(4) as usize],
         Step::Add { key, kind, length, sequence, new_key } => match r.below(6) {
             0 => *new_key ^= 1,
-            1 if r.below(40) == 0 => *length = 16_777_216,
+            1 if r.below(400) == 0 => *length = 16_777_216,
             1 => *length = [16_777_217, u64::MAX][r.below(2) as usize],
             2 => (*kind, *length) = (2, r.below(2)),
             3 => _ = key.pop(),
@@ -74,7 +74,7 @@ impl Call for History {
     type Case = Case;
     type Answer = Answer;
     const NAME: &'static str = "rows of add, set_offset";
-    const ONE_IN: u64 = 4;
+    const ONE_IN: u64 = 2;
     const MET: &'static [u64] = &[0, 2, 3, 4, 5, 6, 7];
 
     /// As many keys as there may be, and one more; each other refusal once.

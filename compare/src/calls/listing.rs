@@ -28,7 +28,7 @@ impl Call for Listing {
     type Case = Case;
     type Answer = Answer;
     const NAME: &'static str = "kiban_listing";
-    const ONE_IN: u64 = 60;
+    const ONE_IN: u64 = 4;
     const MET: &'static [u64] = &[0, 6, 16, 20, 21, 22, 23, 24, 25, 26, 27, 28, 29, 30];
 
     fn fixed() -> Vec<Case> {

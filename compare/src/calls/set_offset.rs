@@ -23,7 +23,6 @@ impl Call for SetOffset {
     type Case = Case;
     type Answer = Answer;
     const NAME: &'static str = "kiban_set_offset";
-    const ONE_IN: u64 = 4;
     const MET: &'static [u64] = &[0, 1, 7];
 
     fn fixed() -> Vec<Case> {

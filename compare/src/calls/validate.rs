@@ -15,7 +15,7 @@ impl Call for Validate {
     type Case = Case;
     type Answer = u64;
     const NAME: &'static str = "kiban_validate";
-    const ONE_IN: u64 = 10;
+    const ONE_IN: u64 = 2;
     const MET: &'static [u64] = &[0, 20, 21, 22, 23, 24, 25, 26, 27, 28, 29, 30];
 
     fn fixed() -> Vec<Case> {

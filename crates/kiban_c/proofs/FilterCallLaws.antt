@@ -1,37 +1,80 @@
--- Laws of the boundary's calls on a filter: each way a call goes meets its promise. Assumes nothing.
-use mathlib.Core.Path.{_≡_, sym, ap, ap₂, _∙_}
-use mathlib.Core.Bool.{false}
-use mathlib.Core.List.{List, map}
-use Prim.Native.Nat.{ℕ, _+_, _-_, _≤_, _<_}
-use native.Mathlib.Numerals.{add-one}
+-- What the boundary's checks leave of the calls of the filter; what stands in front of the answers while they are asked. Assumes nothing.
+use mathlib.Core.Path.{_≡_, refl, sym, ap, subst, _∙_}
+use mathlib.Core.List.{List, [], _∷_, map}
+use mathlib.Core.Logic.{_⊎_, inl, inr}
+use denote.Enum.Declared.{tagOf}
+use types.Run.{OneOf}
+use Prim.Native.Nat.{ℕ, _+_, _-_, _*_, _^_, _≤_, _<_}
 use native.Mathlib.Omega.{arith}
-use borrow.Author.Tests.{lt-ltb, le-ltb, ne-eqb}
-use lib.Dec.{eqb}
 use lib.ListN.{length, getD, set, drop, length-map, List·getD-map}
-use lib.Seq.{paste, paste-suc, length-paste}
+use lib.Seq.{paste}
 use Rattle.words.specs.Field.{splice}
-use Rattle.words.proofs.Laws.{splice-paste}
 use Rattle.fuse.specs.declared.Sizes.{Sizes}
 use Rattle.fuse.specs.Positions.{cellsIn}
 use Rattle.fuse.proofs.FitLaws.{cells-some}
 use Rattle.filter.specs.declared.SstFilter.{SstFilter}
-use Rattle.filter.specs.declared.SstFilter.the-variants.{Fuse}
+use Rattle.filter.specs.declared.SstFilter.the-variants.{Positive, Fuse, Refused}
+use Rattle.filter.specs.declared.Built.{Built}
+use Rattle.filter.specs.declared.Built.the-variants as built
 use Rattle.filter.specs.Reading.{readOf, readRefusal}
 use Rattle.filter.specs.Asking.{askOf}
+use Rattle.filter.specs.Building.{BuildPost, builtRefusal}
+use Rattle.filter.proofs.SstFilter.{the-type}
 use Rattle.filter.proofs.ReadLaws.{read-short, fuse-accepted}
-use Rattle.kiban_c.specs.Lent.{lentAfter}
-use Rattle.kiban_c.specs.FilterCalls.{wordsOf, lentNumber, FilterReadPost, cellsAskOf, FilterAskAllPost}
+use Rattle.filter.proofs.BuiltLaws.{built-usable}
+use Rattle.finish.proofs.RowLaws.{splice-none}
+use Rattle.kiban_c.specs.FilterCalls.{builtValues, FilterBuildCall, readValues, FilterReadCall, cellsAskOf, askAllValues, FilterAskAllCall}
+use Rattle.kiban_c.proofs.LentLaws.{first-number, first-left, none-number, none-left, short, enough, put-length, put-next, put-whole}
+
+-- ---- building
+
+module _ {hashes wide narrow out answer : List ℕ} where
+  pub build-refused : length answer < 1 → FilterBuildCall hashes wide narrow out answer 6 hashes wide narrow out answer
+  build-refused h =
+      let f = short answer 1 h in
+      let p : 0 < 6 = omega arith in
+      record {
+        number = first-number f p _;
+        hashes-after = first-left f p _ _;
+        wide-after = first-left f p _ _;
+        narrow-after = first-left f p _ _;
+        out-after = first-left f p _ _;
+        answer-after = first-left f p _ _;
+      }
+
+  pub build-made : {given r : Built} {hashes' wide' narrow' out' answer' : List ℕ} → 1 ≤ length answer → BuildPost hashes wide narrow out given hashes' wide' narrow' out' → given ≡ r
+      → answer' ≡ splice answer 0 (builtValues r) → FilterBuildCall hashes wide narrow out answer (builtRefusal r) hashes' wide' narrow' out' answer'
+  build-made h p g av =
+      let c = enough answer 1 h in
+      let e = sym g ∙ p .answer in
+      record {
+        number = ap builtRefusal e ∙ none-number c _;
+        hashes-after = p .hashes-after ∙ none-left c _ _;
+        wide-after = p .wide-after ∙ none-left c _ _;
+        narrow-after = p .narrow-after ∙ none-left c _ _;
+        out-after = p .out-after ∙ none-left c _ _;
+        answer-after = av ∙ ap (λ (z : Built). splice answer 0 (builtValues z)) e ∙ none-left c _ _;
+      }
+
+-- the cells of what was built are few
+pub cells-small : {hashes wide narrow out : List ℕ} {r : Built} {hashes' wide' narrow' out' : List ℕ} → BuildPost hashes wide narrow out r hashes' wide' narrow' out' → (s : Sizes) → r ≡ built.Fuse s
+    → (s .count + 3) * s .segment < 2 ^ 32
+cells-small p s e = built-usable p (λ q z. let k : _≡_ {A = ℕ} 0 1 = cc in omega arith) s e .small
 
 -- ---- reading
 
-module _ (bytes answer : List ℕ) where
-  pub read-lent-short : length answer < 6 → FilterReadPost bytes answer 6 answer
-  read-lent-short l = record { number = rw (lt-ltb (length answer) 6 l); words = rw (lt-ltb (length answer) 6 l) }
+module _ {bytes answer : List ℕ} where
+  pub read-refused : length answer < 6 → FilterReadCall bytes answer 6 answer
+  read-refused h =
+      let f = short answer 6 h in
+      record { number = first-number f (omega arith) _; answer-after = first-left f (omega arith) _ _ }
 
-  pub read-lent : (filter : SstFilter) → readOf bytes ≡ filter → 6 ≤ length answer → (after : List ℕ)
-      → after ≡ lentAfter (readRefusal filter) answer (wordsOf filter) → FilterReadPost bytes answer (readRefusal filter) after
-  read-lent filter e l after p =
-      record { number = rw (le-ltb (length answer) 6 l, e); words = rw (le-ltb (length answer) 6 l, e) p }
+  pub read-made : {given r : SstFilter} {answer' : List ℕ} → 6 ≤ length answer → given ≡ readOf bytes → given ≡ r → answer' ≡ splice answer 0 (readValues r)
+      → FilterReadCall bytes answer (readRefusal r) answer'
+  read-made h p g av =
+      let c = enough answer 6 h in
+      let e = sym g ∙ p in
+      record { number = ap readRefusal e ∙ none-number c _; answer-after = av ∙ ap (λ (z : SstFilter). splice answer 0 (readValues z)) e ∙ none-left c _ _ }
 
 -- a Fuse filter's bytes past the header are its cells
 pub fuse-cells : (bytes : List ℕ) (s : Sizes) → readOf bytes ≡ Fuse s → (48 ≤ length bytes) × (length bytes - 48 ≡ cellsIn (s .segment) (s .count))
@@ -44,43 +87,58 @@ fuse-cells bytes s e =
 
 module _ (f : ℕ → ℕ) (hashes answers after : List ℕ) (i : ℕ) (l : length hashes ≤ length answers)
     (e : after ≡ paste answers 0 (map f hashes) i) where
+  room : length (map f hashes) ≤ length answers
+  room = omega (arith, l, length-map hashes f)
+
   pub each-length : i ≤ length hashes → length after ≡ length answers
-  each-length h =
-      let m = length-map hashes f in
-      ap length e ∙ length-paste answers 0 (map f hashes) i (omega (arith, l, h)) (omega (arith, m, h))
+  each-length h = put-length answers (map f hashes) after i room e (omega (arith, h, length-map hashes f))
 
   pub each-next : (v : ℕ) → i < length hashes → v ≡ f (getD hashes i 0) → set after i v ≡ paste answers 0 (map f hashes) (i + 1)
-  each-next v h p =
-      let m = length-map hashes f in
-      let z : i ≡ 0 + i = omega arith in
-      rw add-one
-      (ap₂ (λ (t : List ℕ) (x : ℕ). set t i x) e (p ∙ sym (List·getD-map f hashes i 0))
-      ∙ ap (λ (j : ℕ). set (paste answers 0 (map f hashes) i) j (getD (map f hashes) i (f 0))) z ∙ paste-suc answers 0 (map f hashes) i (f 0) (omega (arith, l, h)) (omega (arith, m, h)))
+  each-next v h p = put-next answers (map f hashes) after i room e (f 0) v (omega (arith, h, length-map hashes f)) (p ∙ sym (List·getD-map f hashes i 0))
 
   pub each-whole : i ≡ length hashes → after ≡ splice answers 0 (map f hashes)
-  each-whole h = e ∙ ap (paste answers 0 (map f hashes)) (h ∙ sym (length-map hashes f)) ∙ splice-paste answers 0 (map f hashes)
+  each-whole h = put-whole answers (map f hashes) after i room e (h ∙ sym (length-map hashes f))
 
 -- ---- asking for all
 
-module _ (bytes hashes answers : List ℕ) where
-  pub all-lent-short : length answers < length hashes → FilterAskAllPost bytes hashes answers 6 answers
-  all-lent-short l =
-      record { number = rw (lt-ltb (length answers) (length hashes) l); numbers = rw (lt-ltb (length answers) (length hashes) l) }
+-- of the three variants, what is one of the first two is not refused
+pub accepted : (filter : SstFilter) → OneOf (0 ∷ 1 ∷ []) (tagOf the-type filter) → filter ≡ Refused → ⊥
+accepted filter k e = neither (subst (λ (z : SstFilter). OneOf (0 ∷ 1 ∷ []) (tagOf the-type z)) e k)
+  where
+    neither : (_≡_ {A = ℕ} 2 0) ⊎ (_≡_ {A = ℕ} 2 1) → ⊥
+    neither (inl z) = omega arith
+    neither (inr z) = omega arith
 
-  module _ (l : length hashes ≤ length answers) where
-    all-number : lentNumber bytes (length answers) (length hashes) ≡ readRefusal (readOf bytes)
-    all-number = rw (le-ltb (length answers) (length hashes) l)
+-- a filter that reading accepts has 48 bytes and more
+pub header-whole : (bytes : List ℕ) → (readOf bytes ≡ Refused → ⊥) → 48 ≤ length bytes
+header-whole bytes a =
+    let short : length bytes < 48 → ⊥ = λ s. a (sym (read-short bytes s)) in
+    omega arith
 
-    pub all-refused : (r : ℕ) → r ≡ readRefusal (readOf bytes) → 0 < r → FilterAskAllPost bytes hashes answers r answers
-    all-refused r e p =
-        let t : eqb (readRefusal (readOf bytes)) 0 ≡ false = ne-eqb (readRefusal (readOf bytes)) 0 (λ z. omega (arith, e, z, p)) in
-        record { number = e ∙ sym all-number; numbers = rw (all-number, t) }
+-- what is not refused has a number for each hash
+answers-whole : (bytes hashes : List ℕ) (filter : SstFilter) → (filter ≡ Refused → ⊥) → (readRefusal filter ≡ 0) × (askAllValues filter bytes hashes ≡ askAllValues Positive bytes hashes)
+answers-whole bytes hashes Positive a = (refl, refl)
+answers-whole bytes hashes (Fuse s) a = (refl, refl)
+answers-whole bytes hashes Refused a = absurd (a refl)
 
-    -- fewer than 48 bytes are no filter
-    pub all-headless : length bytes < 48 → FilterAskAllPost bytes hashes answers 15 answers
-    all-headless s = all-refused 15 (ap readRefusal (read-short bytes s)) (omega arith)
+module _ {bytes hashes answers : List ℕ} where
+  pub all-refused : length answers < length hashes → FilterAskAllCall bytes hashes answers 6 answers
+  all-refused h =
+      let f = short answers (length hashes) h in
+      record { number = first-number f (omega arith) _; answers-after = first-left f (omega arith) _ _ }
 
-    pub all-asked : 0 ≡ readRefusal (readOf bytes) → (after : List ℕ)
-        → after ≡ splice answers 0 (map (cellsAskOf (readOf bytes) (drop 48 bytes)) hashes) → FilterAskAllPost bytes hashes answers 0 after
+  module _ (h : length hashes ≤ length answers) where
+    pub all-unread : Refused ≡ readOf bytes → FilterAskAllCall bytes hashes answers 15 answers
+    all-unread e =
+        let c = enough answers (length hashes) h in
+        record {
+          number = ap readRefusal e ∙ none-number c _;
+          answers-after = sym (splice-none answers 0) ∙ ap (λ (z : SstFilter). splice answers 0 (askAllValues z bytes hashes)) e ∙ none-left c _ _;
+        }
+
+    pub all-asked : {answers' : List ℕ} → (readOf bytes ≡ Refused → ⊥) → answers' ≡ splice answers 0 (map (cellsAskOf (readOf bytes) (drop 48 bytes)) hashes) → FilterAskAllCall bytes hashes answers 0 answers'
     unfolding askOf
-    all-asked e after p = record { number = e ∙ sym all-number; numbers = rw (all-number, ← e) p }
+    all-asked a av =
+        let c = enough answers (length hashes) h in
+        let w = answers-whole bytes hashes (readOf bytes) a in
+        record { number = sym (w .0) ∙ none-number c _; answers-after = av ∙ ap (splice answers 0) (sym (w .1)) ∙ none-left c _ _ }

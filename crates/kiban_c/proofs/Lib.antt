@@ -1,7 +1,8 @@
-pub mod BuildLaws
-pub mod FilterBuildingLaws
+pub mod LentLaws
+pub mod BuilderCallLaws
+pub mod FinishCallLaws
+pub mod PointCallLaws
 pub mod FilterCallLaws
-pub mod FinishingLaws
-mod ListingLaws
-mod ReadingLaws
+pub mod LinesCallLaws
 pub mod UniqueLaws
+pub mod ExactLaws

@@ -1,33 +1,66 @@
--- The boundary's calls on a filter: the numbers they return, and what they put into the lists lent for their answers.
-use mathlib.Core.Bool.{cond}
-use mathlib.Core.List.{List, [], _∷_, map}
-use mathlib.Core.Path.{_≡_}
+-- The filter at the boundary: build's answer is one word (the bytes written), read's six, and ask_all's a byte for each hash.
 use Prim.Native.Nat.{ℕ}
-use lib.Dec.{ltb}
+use mathlib.Core.Path.{_≡_}
+use mathlib.Core.List.{List, [], _∷_, map}
 use lib.ListN.{length}
+use Rattle.laws.specs.Refusals.{Cause}
+use Rattle.words.specs.Field.{splice}
 use Rattle.fuse.specs.Positions.{cellsIn}
+use Rattle.sort.specs.Sort.{sorted}
 use Rattle.filter.specs.declared.SstFilter.{SstFilter}
-use Rattle.filter.specs.declared.SstFilter.the-variants.{Positive, Fuse, Refused}
+use Rattle.filter.specs.declared.SstFilter.the-variants as read
 use Rattle.filter.specs.declared.Answer.{Answer}
 use Rattle.filter.specs.declared.Answer.the-variants as answer
+use Rattle.filter.specs.declared.Built.{Built}
+use Rattle.filter.specs.declared.Built.the-variants as built
 use Rattle.filter.specs.Reading.{readOf, readRefusal}
 use Rattle.filter.specs.Asking.{askCellsOf, askOf}
-use Rattle.kiban_c.specs.Lent.{lentAfter}
+use Rattle.filter.specs.Building.{buildOf, builtRefusal, hashesBy, spaceBy, outBy, lengthBy}
+use Rattle.kiban_c.specs.Lent.{answerShort, numberBy, leftBy}
+
+-- ---- building
+
+-- the answer's words: how many bytes were written, none for a refusal
+abbrev pub builtValues : Built → List ℕ
+builtValues built.Positive = lengthBy built.Positive ∷ []
+builtValues (built.Fuse s) = lengthBy (built.Fuse s) ∷ []
+builtValues (built.Refused n) = []
+
+-- what build answers, for what is lent
+abbrev pub buildCalled : (hashes wide narrow out : List ℕ) → Built
+buildCalled hashes wide narrow out = buildOf hashes (length wide) (length narrow) (length out)
+
+-- what kiban_filter_build checks first: answer under 1 word, 6
+abbrev pub filterBuildChecks : (answer : List ℕ) → List Cause
+filterBuildChecks answer = answerShort answer 1 ∷ []
+
+-- what kiban_filter_build commits to: the number, and every lent byte and word
+pub record FilterBuildCall (hashes wide narrow out answer : List ℕ) (r : ℕ) (hashes' wide' narrow' out' answer' : List ℕ) : Type 0 where
+  pub number : r ≡ numberBy (filterBuildChecks answer) (builtRefusal (buildCalled hashes wide narrow out))
+  pub hashes-after : hashes' ≡ leftBy (filterBuildChecks answer) hashes (hashesBy (buildCalled hashes wide narrow out) hashes)
+  pub wide-after : wide' ≡ leftBy (filterBuildChecks answer) wide (spaceBy (buildCalled hashes wide narrow out) wide)
+  pub narrow-after : narrow' ≡ leftBy (filterBuildChecks answer) narrow (spaceBy (buildCalled hashes wide narrow out) narrow)
+  pub out-after : out' ≡ leftBy (filterBuildChecks answer) out (outBy (buildCalled hashes wide narrow out) (sorted hashes) out)
+  pub answer-after : answer' ≡ leftBy (filterBuildChecks answer) answer (splice answer 0 (builtValues (buildCalled hashes wide narrow out)))
+
+-- ---- reading
 
 -- 0 Positive or 1 Fuse, keys, seed, segment, count, cells; zeros after 0; no words for what is refused
-abbrev pub wordsOf : SstFilter → List ℕ
-wordsOf Positive = 0 ∷ 0 ∷ 0 ∷ 0 ∷ 0 ∷ 0 ∷ []
-wordsOf (Fuse s) = 1 ∷ s .keys ∷ s .seed ∷ s .segment ∷ s .count ∷ cellsIn (s .segment) (s .count) ∷ []
-wordsOf Refused = []
+abbrev pub readValues : SstFilter → List ℕ
+readValues read.Positive = 0 ∷ 0 ∷ 0 ∷ 0 ∷ 0 ∷ 0 ∷ []
+readValues (read.Fuse s) = 1 ∷ s .keys ∷ s .seed ∷ s .segment ∷ s .count ∷ cellsIn (s .segment) (s .count) ∷ []
+readValues read.Refused = []
 
--- 6 where less is lent than the answer needs, else reading's number
-abbrev pub lentNumber : (bytes : List ℕ) (lent needed : ℕ) → ℕ
-lentNumber bytes lent needed = cond (ltb lent needed) 6 (readRefusal (readOf bytes))
+-- what kiban_filter_read checks first: answer under 6 words, 6
+abbrev pub filterReadChecks : (answer : List ℕ) → List Cause
+filterReadChecks answer = answerShort answer 6 ∷ []
 
--- what kiban_filter_read promises
-pub record FilterReadPost (bytes answer : List ℕ) (r : ℕ) (after : List ℕ) : Type 0 where
-  pub number : r ≡ lentNumber bytes (length answer) 6
-  pub words : after ≡ lentAfter (lentNumber bytes (length answer) 6) answer (wordsOf (readOf bytes))
+-- what kiban_filter_read commits to: the number, and every word of the answer
+pub record FilterReadCall (bytes answer : List ℕ) (r : ℕ) (answer' : List ℕ) : Type 0 where
+  pub number : r ≡ numberBy (filterReadChecks answer) (readRefusal (readOf bytes))
+  pub answer-after : answer' ≡ leftBy (filterReadChecks answer) answer (splice answer 0 (readValues (readOf bytes)))
+
+-- ---- asking
 
 -- 0 absent, 1 maybe, 15
 abbrev pub askNumber : Answer → ℕ
@@ -35,7 +68,7 @@ askNumber answer.Absent = 0
 askNumber answer.Maybe = 1
 askNumber answer.Refused = 15
 
--- the number of a hash: what kiban_filter_ask answers
+-- the number of a hash: what kiban_filter_ask returns
 abbrev pub filterAskOf : (bytes : List ℕ) (hash : ℕ) → ℕ
 filterAskOf bytes hash = askNumber (askOf bytes hash)
 
@@ -43,7 +76,17 @@ filterAskOf bytes hash = askNumber (askOf bytes hash)
 abbrev pub cellsAskOf : SstFilter → (cells : List ℕ) (hash : ℕ) → ℕ
 cellsAskOf filter cells hash = askNumber (askCellsOf filter cells hash)
 
--- what kiban_filter_ask_all promises: the number of each hash, in their order
-pub record FilterAskAllPost (bytes hashes answers : List ℕ) (r : ℕ) (after : List ℕ) : Type 0 where
-  pub number : r ≡ lentNumber bytes (length answers) (length hashes)
-  pub numbers : after ≡ lentAfter (lentNumber bytes (length answers) (length hashes)) answers (map (filterAskOf bytes) hashes)
+-- the number of each hash, in their order; none where reading refuses
+abbrev pub askAllValues : SstFilter → (bytes hashes : List ℕ) → List ℕ
+askAllValues read.Positive bytes hashes = map (filterAskOf bytes) hashes
+askAllValues (read.Fuse s) bytes hashes = map (filterAskOf bytes) hashes
+askAllValues read.Refused bytes hashes = []
+
+-- what kiban_filter_ask_all checks first: fewer answers than hashes, 6
+abbrev pub filterAskAllChecks : (hashes answers : List ℕ) → List Cause
+filterAskAllChecks hashes answers = answerShort answers (length hashes) ∷ []
+
+-- what kiban_filter_ask_all commits to: the number, and every byte of the answers
+pub record FilterAskAllCall (bytes hashes answers : List ℕ) (r : ℕ) (answers' : List ℕ) : Type 0 where
+  pub number : r ≡ numberBy (filterAskAllChecks hashes answers) (readRefusal (readOf bytes))
+  pub answers-after : answers' ≡ leftBy (filterAskAllChecks hashes answers) answers (splice answers 0 (askAllValues (readOf bytes) bytes hashes))

@@ -1,10 +1,28 @@
--- What a call of the boundary leaves in the list lent for its answer.
+-- What the boundary checks before a call's own checks, and what that leaves of the call: its number, and each list lent to it.
+use Prim.Native.Nat.{ℕ}
 use mathlib.Core.Bool.{cond}
 use mathlib.Core.List.{List}
-use Prim.Native.Nat.{ℕ}
-use lib.Dec.{eqb}
-use Rattle.words.specs.Field.{splice}
+use lib.Dec.{ltb, eqb}
+use lib.ListN.{length}
+use Rattle.laws.specs.Refusals.{Cause, cause, firstOf, orElse}
+use Rattle.records.specs.Rules.{badKind}
 
--- the answer in front where the number is 0; a refused call leaves the list as it was
-abbrev pub lentAfter : (number : ℕ) (lent answer : List ℕ) → List ℕ
-lentAfter number lent answer = cond (eqb number 0) (splice lent 0 answer) lent
+-- the list lent for the answer is shorter than said, 6
+abbrev pub answerShort : (answer : List ℕ) (said : ℕ) → Cause
+answerShort answer said = cause (ltb (length answer) said) 6
+
+-- the state is under three words, 1
+abbrev pub stateShort : (state : List ℕ) → Cause
+stateShort state = cause (ltb (length state) 3) 1
+
+-- the kind is neither 1 (put) nor 2 (tombstone), 28
+abbrev pub kindOther : (kind : ℕ) → Cause
+kindOther kind = cause (badKind kind) 28
+
+-- the number that a call returns: that of the first check that holds, else the call's own
+unfoldable pub numberBy : (checks : List Cause) (own : ℕ) → ℕ
+numberBy checks own = orElse (firstOf checks) own
+
+-- a lent list after it: as it was where a check holds, else as the call itself leaves it
+unfoldable pub leftBy : (checks : List Cause) (before after : List ℕ) → List ℕ
+leftBy checks before after = cond (eqb (firstOf checks) 0) after before

@@ -1,71 +1,60 @@
-// The filter's reading side: what its bytes hold, and whether it holds hashes.
-ghost use mathlib.Core.List.{[], _∷_, map};
+// The filter's calls: built, its bytes read, and asked for hashes.
+use super::lent::put_words;
+use filter::Answer;
+use filter::Built;
+use filter::SstFilter;
+use fuse::Sizes;
+ghost use mathlib.Core.List.{map};
 ghost use mathlib.Core.Path.{_≡_};
 ghost use Prim.Native.Nat.{_≤_};
 ghost use lib.ListN.{length};
 ghost use Rattle.words.specs.Field.{splice};
-ghost use Rattle.filter.specs.Reading.{readRefusal};
-ghost use Rattle.kiban_c.specs.FilterCalls.{FilterReadPost, askNumber, filterAskOf, cellsAskOf, FilterAskAllPost};
-use filter::Answer;
-use filter::SstFilter;
-use fuse::Sizes;
+ghost use Rattle.kiban_c.specs.FilterCalls.{FilterBuildCall, FilterReadCall, askNumber, filterAskOf, cellsAskOf, FilterAskAllCall};
 
-// Puts six words in front.
-fn put_six(
+// Builds a filter of the hashes: 0, with the bytes written in front of `answer`, or the refusal; 6 first for an answer under one word.
+#[no_mangle]
+pub extern "C" fn kiban_filter_build(
+    hashes: &mut [u64],
+    wide: &mut [u64],
+    narrow: &mut [u32],
+    out: &mut [u8],
     answer: &mut [u64],
-    kind: u64,
-    keys: u64,
-    seed: u64,
-    segment: u64,
-    count: u64,
-    cells: u64,
-)
-    requires { ⌜ 6 ≤ length (now answer) ⌝ }
-    ensures { λ _. ⌜ now (answer .exit) ≡ splice (now (answer .entry)) 0 (kind ∷ keys ∷ seed ∷ segment ∷ count ∷ cells ∷ []) ⌝ }
+) -> u64
+    ensures { λ r. ⌜ FilterBuildCall (now (hashes .entry)) (now (wide .entry)) (now (narrow .entry)) (now (out .entry)) (now (answer .entry)) r (now (hashes .exit)) (now (wide .exit)) (now (narrow .exit)) (now (out .exit)) (now (answer .exit)) ⌝ }
 {
-    answer[0] = kind;
-    answer[1] = keys;
-    answer[2] = seed;
-    answer[3] = segment;
-    answer[4] = count;
-    answer[5] = cells;
-}
-
-// The number of what was read.
-fn refusal(filter: SstFilter) -> u64
-    ensures { λ r. ⌜ r ≡ readRefusal filter ⌝ }
-{
-    match filter {
-        SstFilter::Positive => 0,
-        SstFilter::Fuse(_) => 0,
-        SstFilter::Refused => 15,
+    if answer.len() < 1 {
+        return 6;
+    }
+    match filter::build(hashes, wide, narrow, out) {
+        Built::Positive => {
+            answer[0] = Sizes::HEADER as u64;
+            0
+        }
+        Built::Fuse(s) => {
+            answer[0] = Sizes::HEADER as u64 + (s.count as u64 + 3) * s.segment as u64;
+            0
+        }
+        Built::Refused(n) => n as u64,
     }
 }
 
 // Reads a filter: 0, with its six words in front of `answer`, or 15; 6 first for an answer under six words.
 #[no_mangle]
 pub extern "C" fn kiban_filter_read(bytes: &[u8], answer: &mut [u64]) -> u64
-    ensures { λ r. ⌜ FilterReadPost (now (bytes .entry)) (now (answer .entry)) r (now (answer .exit)) ⌝ }
+    ensures { λ r. ⌜ FilterReadCall (now (bytes .entry)) (now (answer .entry)) r (now (answer .exit)) ⌝ }
 {
     if answer.len() < 6 {
         return 6;
     }
     match filter::read(bytes) {
         SstFilter::Positive => {
-            put_six(answer, 0, 0, 0, 0, 0, 0);
+            put_words(answer, &[0u64; 6]);
             0
         }
         SstFilter::Fuse(s) => {
             let cells = (bytes.len() - Sizes::HEADER) as u64;
-            put_six(
-                answer,
-                1,
-                s.keys,
-                s.seed,
-                s.segment as u64,
-                s.count as u64,
-                cells,
-            );
+            let held = [1, s.keys, s.seed, s.segment as u64, s.count as u64, cells];
+            put_words(answer, &held);
             0
         }
         SstFilter::Refused => 15,
@@ -106,18 +95,14 @@ fn ask_each(filter: SstFilter, cells: &[u8], hashes: &[u64], answers: &mut [u8])
 // Asks a filter, whose header is read once, for all the hashes: 0, with their answers in front, or 15; 6 first for fewer answers than hashes.
 #[no_mangle]
 pub extern "C" fn kiban_filter_ask_all(bytes: &[u8], hashes: &[u64], answers: &mut [u8]) -> u64
-    ensures { λ r. ⌜ FilterAskAllPost (now (bytes .entry)) (now (hashes .entry)) (now (answers .entry)) r (now (answers .exit)) ⌝ }
+    ensures { λ r. ⌜ FilterAskAllCall (now (bytes .entry)) (now (hashes .entry)) (now (answers .entry)) r (now (answers .exit)) ⌝ }
 {
     if answers.len() < hashes.len() {
         return 6;
     }
-    if bytes.len() < Sizes::HEADER {
-        return 15;
-    }
     let read = filter::read(bytes);
-    let refused = refusal(read);
-    if 0 < refused {
-        return refused;
+    if let SstFilter::Refused = read {
+        return 15;
     }
     ask_each(read, &bytes[Sizes::HEADER..], hashes, answers);
     0

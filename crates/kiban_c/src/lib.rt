@@ -1,9 +1,9 @@
-// The calls that a Rust or C host links: numbers and slices alone, each over a public call of a crate below.
-pub mod build;
-pub mod filter_building;
+// The calls that a Rust or C host links: numbers and slices alone, a module for each crate below whose calls it passes on.
+pub mod builder_calls;
 pub mod filter_calls;
-pub mod finishing;
-pub mod listing;
+pub mod finish_calls;
+mod lent;
+pub mod lines_calls;
 pub mod mixing_calls;
-pub mod reading;
-pub mod sorting;
+pub mod point_calls;
+pub mod sort_calls;

@@ -37,9 +37,9 @@ use Rattle.filter.specs.declared.Written.{Written}
 use Rattle.filter.specs.declared.Written.the-variants.{Length, Unaccepted, Short}
 use Rattle.filter.specs.declared.Built.{Built}
 use Rattle.filter.specs.declared.Built.the-variants as built
-use Rattle.filter.specs.Reading.{Layout, readOf}
+use Rattle.filter.specs.Reading.{Layout, readOf, acceptable}
 use Rattle.filter.specs.Asking.{askOf}
-use Rattle.filter.specs.Writing.{acceptable, writeOf, outputBy, WritePost}
+use Rattle.filter.specs.Writing.{writeOf, outputBy, WritePost}
 use Rattle.filter.specs.Building.{buildCauses, outBy, hashesBy, spaceBy, BuildPost}
 use Rattle.filter.proofs.ExactLaws.{refused-none, none-refused, ask-refuses, ask-answers}
 use Rattle.filter.proofs.BuiltLaws.{refused-cause, cause-refused}

@@ -24,3 +24,31 @@ pub use Rattle.filter.proofs.UniqueLaws.{write-unique}
 pub use Rattle.filter.proofs.BuiltLaws.{build-unique}
 -- listing: the answer and the output
 pub use Rattle.lines.proofs.Theorems.{listing-one}
+-- The C boundary, the number returned and every lent byte and word:
+
+-- kiban_mix: the number
+pub use Rattle.kiban_c.proofs.UniqueLaws.{mix-call-unique}
+-- kiban_hash: the number
+pub use Rattle.kiban_c.proofs.UniqueLaws.{hash-call-unique}
+-- kiban_sort: the number and the hashes
+pub use Rattle.kiban_c.proofs.UniqueLaws.{sort-call-unique}
+-- kiban_add: the number, the buffer, the state and the answer
+pub use Rattle.kiban_c.proofs.UniqueLaws.{add-call-unique}
+-- kiban_set_offset: the number and the buffer
+pub use Rattle.kiban_c.proofs.UniqueLaws.{set-offset-call-unique}
+-- kiban_finish: the number, the output, both workspaces and the answer
+pub use Rattle.kiban_c.proofs.UniqueLaws.{finish-call-unique}
+-- kiban_validate: the number
+pub use Rattle.kiban_c.proofs.UniqueLaws.{validate-call-unique}
+-- kiban_get: the number and the answer
+pub use Rattle.kiban_c.proofs.UniqueLaws.{get-call-unique}
+-- kiban_filter_build: the number, the hashes, both workspaces, the output and the answer
+pub use Rattle.kiban_c.proofs.UniqueLaws.{filter-build-call-unique}
+-- kiban_filter_read: the number and the answer
+pub use Rattle.kiban_c.proofs.UniqueLaws.{filter-read-call-unique}
+-- kiban_filter_ask: the number
+pub use Rattle.kiban_c.proofs.UniqueLaws.{filter-ask-call-unique}
+-- kiban_filter_ask_all: the number and the answers
+pub use Rattle.kiban_c.proofs.UniqueLaws.{filter-ask-all-call-unique}
+-- kiban_listing: the number, the output and the answer
+pub use Rattle.kiban_c.proofs.UniqueLaws.{listing-call-unique}

@@ -1,17 +1,18 @@
--- `kiban_filter_read` meets its contract. Assumes nothing.
-use mathlib.Core.Path.{refl, sym, ap, _∙_}
-use mathlib.Core.List.{[], _∷_}
+-- `kiban_filter_read` answers its own check, and then what read answers. Assumes nothing.
 use Prim.Native.Nat.{ℕ}
 use native.Mathlib.Omega.{arith}
+use mathlib.Core.Path.{sym, ap, _∙_}
+use mathlib.Core.List.{[], _∷_}
 use Rattle.words.specs.Field.{splice}
 use Rattle.filter.specs.declared.SstFilter.the-variants.{Positive, Fuse, Refused}
-use Rattle.kiban_c.proofs.FilterCallLaws.{read-lent-short, read-lent, fuse-cells}
+use Rattle.finish.proofs.RowLaws.{splice-none}
+use Rattle.kiban_c.proofs.FilterCallLaws.{read-refused, read-made, fuse-cells}
 use borrow.Author.Needs.{needs}
 use Rattle.kiban_c.proofs.filter_calls.kiban_filter_read.Statement.{statement}
 use Rattle.kiban_c.proofs.filter_calls.kiban_filter_read.Tie as tie
 
 returns : tie.Need-returns
-returns c = read-lent-short (c .before .before .before .args .bytes .now) (c .before .before .before .args .answer .now) (c .if1 .taken)
+returns c = read-refused (c .if1 .taken)
 
 read-requires : tie.Need-read-requires
 read-requires c κs = search needs
@@ -19,25 +20,31 @@ read-requires c κs = search needs
 enum-told : tie.Need-enum-told
 enum-told c = search needs
 
-put-six-requires : tie.Need-put-six-requires
-put-six-requires c κs = search needs
+slice-aggregate-put-words : tie.Need-slice-aggregate-put-words
+slice-aggregate-put-words c = search needs
+
+put-words-requires : tie.Need-put-words-requires
+put-words-requires c κs = search needs
 
 enum-known-s : tie.Need-enum-known-s
 enum-known-s c = search needs
 
 sub-cells : tie.Need-sub-cells
 sub-cells c =
-    let e = sym (c .before .before .before .read .ensures) ∙ c .before .s .given .1 in
-    omega (arith, fuse-cells (c .before .before .before .before .before .before .before .args .bytes .now) (c .before .s .given .0 .0) e .0)
+    let z = c .before .s .given in
+    omega (arith, fuse-cells (c .before .before .before .before .before .before .before .args .bytes .now) (z .0 .0) (sym (c .before .before .before .read .ensures) ∙ z .1) .0)
 
-cast-put-six : tie.Need-cast-put-six
-cast-put-six c = search needs
+cast-t18 : tie.Need-cast-t18
+cast-t18 c = search needs
 
-cast-put-six-2 : tie.Need-cast-put-six-2
-cast-put-six-2 c = search needs
+cast-t19 : tie.Need-cast-t19
+cast-t19 c = search needs
 
-put-six-requires-2 : tie.Need-put-six-requires-2
-put-six-requires-2 c κs = search needs
+slice-aggregate-put-words-2 : tie.Need-slice-aggregate-put-words-2
+slice-aggregate-put-words-2 c = search needs
+
+put-words-requires-2 : tie.Need-put-words-requires-2
+put-words-requires-2 c κs = search needs
 
 enum-told-2 : tie.Need-enum-told-2
 enum-told-2 c = search needs
@@ -46,25 +53,22 @@ same-length : tie.Need-same-length
 same-length c = search needs
 
 returns-2 : tie.Need-returns-2
-returns-2 c =
-    let a = c .before .before .before .before .before .before .before .before .before .before .args in
-    read-lent (a .bytes .now) (a .answer .now) Positive (sym (c .before .before .before .before .before .before .read .ensures) ∙ c .before .before .before .before .enum-told .given .1) (c .before .before .before .before .before .before .before .if1 .left) _ (c .before .before .put-six .ensures)
+returns-2 c = read-made {r = Positive} (c .before .before .before .before .before .before .before .before .if1 .left) (c .before .before .before .before .before .before .before .read .ensures) (c .before .before .before .before .before .enum-told .given .1) (c .before .before .put-words .ensures)
 
 same-length-2 : tie.Need-same-length-2
 same-length-2 c = search needs
 
 returns-3 : tie.Need-returns-3
 returns-3 c =
-    let a = c .before .before .before .before .before .before .before .before .before .before .before .before .before .args in
-    let s = c .before .before .before .before .before .before .before .s .given .0 .0 in
-    let e = sym (c .before .before .before .before .before .before .before .before .before .read .ensures) ∙ c .before .before .before .before .before .before .before .s .given .1 in
-    read-lent (a .bytes .now) (a .answer .now) (Fuse s) e (c .before .before .before .before .before .before .before .before .before .before .if1 .left) _
-    (c .before .before .put-six2 .ensures ∙ ap (λ (n : ℕ). splice (a .answer .now) 0 (1 ∷ s .keys ∷ s .seed ∷ s .segment ∷ s .count ∷ n ∷ [])) (fuse-cells (a .bytes .now) s e .1))
+    let a = c .before .before .before .before .before .before .before .before .before .before .before .before .before .before .args in
+    let z = c .before .before .before .before .before .before .before .before .s .given in
+    let s = z .0 .0 in
+    let cells = fuse-cells (a .bytes .now) s (sym (c .before .before .before .before .before .before .before .before .before .before .read .ensures) ∙ z .1) .1 in
+    read-made {r = Fuse s} (c .before .before .before .before .before .before .before .before .before .before .before .if1 .left) (c .before .before .before .before .before .before .before .before .before .before .read .ensures) (z .1)
+    (c .before .before .put-words2 .ensures ∙ ap (λ (n : ℕ). splice (a .answer .now) 0 (1 ∷ s .keys ∷ s .seed ∷ s .segment ∷ s .count ∷ n ∷ [])) cells)
 
 returns-4 : tie.Need-returns-4
-returns-4 c =
-    let a = c .before .before .before .before .before .before .args in
-    read-lent (a .bytes .now) (a .answer .now) Refused (sym (c .before .before .read .ensures) ∙ c .enum-told2 .given .1) (c .before .before .before .if1 .left) _ refl
+returns-4 c = read-made {r = Refused} (c .before .before .before .if1 .left) (c .before .before .read .ensures) (c .enum-told2 .given .1) (sym (splice-none _ 0))
 
 pub kiban-filter-read-spec : {M : Type 1} → statement M
 kiban-filter-read-spec =
@@ -73,12 +77,14 @@ kiban-filter-read-spec =
     returns
     read-requires
     enum-told
-    put-six-requires
+    slice-aggregate-put-words
+    put-words-requires
     enum-known-s
     sub-cells
-    cast-put-six
-    cast-put-six-2
-    put-six-requires-2
+    cast-t18
+    cast-t19
+    slice-aggregate-put-words-2
+    put-words-requires-2
     enum-told-2
     same-length
     returns-2

@@ -1,0 +1,63 @@
+//! `compare filter FILTER_FILE [HASHES_FILE]`: a stored filter on both sides.
+use super::files;
+use super::report::Report;
+use crate::progress::Progress;
+use crate::{Ended, ours, theirs};
+use oracle::Rng;
+
+/// How many hashes are drawn where no file gives them.
+const DRAWN: usize = 65_536;
+
+pub fn run(filter: &str, hashes: Option<&str>) -> Ended {
+    let bytes = files::read(filter, 0)?;
+    let (hashes, from) = match hashes {
+        Some(path) => (files::hashes(path)?, path),
+        None => (drawn(DRAWN, &[]), "drawn"),
+    };
+    println!("{filter}: {} bytes; {} hashes, {from}", bytes.len(), hashes.len());
+    let mut report = Report::default();
+    read(&mut report, &bytes);
+    let maybe = ask(&mut report, &bytes, &hashes);
+    report.part("ask", &format!("{maybe} of {} maybe", hashes.len()));
+    Ok(report.end())
+}
+
+/// So many hashes that are not among these, which are sorted; always the same ones.
+pub fn drawn(n: usize, members: &[u64]) -> Vec<u64> {
+    let mut r = Rng(n as u64);
+    std::iter::repeat_with(|| r.next()).filter(|h| members.binary_search(h).is_err()).take(n).collect()
+}
+
+/// The filter read on both sides: its fields, or 15.
+pub fn read(report: &mut Report, bytes: &[u8]) {
+    let mut answer = [0; 6];
+    let ours = match ours::filter_read(bytes, &mut answer) {
+        0 => Ok(answer),
+        number => Err(number),
+    };
+    report.equal("filter read", ours, theirs::filter_fields(bytes).ok_or(15));
+    let said = match ours {
+        Err(number) => format!("refused with {number}"),
+        Ok([0, ..]) => "accepted, Positive".into(),
+        Ok([_, keys, _, segment, count, cells]) => {
+            format!("accepted, Fuse of {keys} keys, segment {segment}, count {count}, cells {cells}")
+        }
+    };
+    report.part("read", &said);
+}
+
+/// Each hash asked on both sides, by itself and all at once; how many are maybe.
+pub fn ask(report: &mut Report, bytes: &[u8], hashes: &[u64]) -> usize {
+    let theirs = theirs::filter_asks(bytes, hashes).unwrap_or(vec![15; hashes.len()]);
+    let mut all = vec![15; hashes.len()];
+    ours::filter_ask_all(bytes, hashes, &mut all);
+    let progress = Progress::new("hashes asked", hashes.len() as u64);
+    for (i, &hash) in hashes.iter().enumerate() {
+        let (one, at_once) = (ours::filter_ask(bytes, hash), all[i] as u64);
+        report.ask(one == theirs[i] && at_once == theirs[i], || {
+            format!("ask {hash:#018x}: ours {one}, all at once {at_once}, the Rust {}", theirs[i])
+        });
+        progress.step();
+    }
+    theirs.iter().filter(|&&answer| answer == 1).count()
+}

@@ -1,0 +1,28 @@
+-- `kiban_validate` is the number of validate's answer. Assumes nothing.
+use mathlib.Core.Path.{sym, ap, _∙_}
+use Rattle.point.specs.Validate.{refusalNumber}
+use borrow.Author.Needs.{needs}
+use Rattle.kiban_c.proofs.point_calls.kiban_validate.Statement.{statement}
+use Rattle.kiban_c.proofs.point_calls.kiban_validate.Tie as tie
+
+validate-requires : tie.Need-validate-requires
+validate-requires c κs = search needs
+
+enum-told : tie.Need-enum-told
+enum-told c = search needs
+
+enum-known-n : tie.Need-enum-known-n
+enum-known-n c = search needs
+
+cast-result : tie.Need-cast-result
+cast-result c = search needs
+
+returns : tie.Need-returns
+returns c = sym (ap refusalNumber (sym (c .before .before .validate .ensures) ∙ c .enum-told .given .1))
+
+returns-2 : tie.Need-returns-2
+returns-2 c = sym (ap refusalNumber (sym (c .before .before .before .validate .ensures) ∙ c .before .n .given .1))
+
+pub kiban-validate-spec : {M : Type 1} → statement M
+kiban-validate-spec =
+    tie.close (tie.spec validate-requires enum-told enum-known-n cast-result returns returns-2)
