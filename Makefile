@@ -15,7 +15,7 @@ CARGO = cargo build --quiet --offline --locked --manifest-path compare/Cargo.tom
 # Runs a command quietly; its output is shown where it fails.
 QUIET = mkdir -p target && quiet() { "$$@" > target/quiet.log 2>&1 || { cat target/quiet.log; exit 1; }; } && quiet
 
-.PHONY: test run wrong bindings compare compare-tool compare-files compare-hashes bench vectors
+.PHONY: test run wrong bindings compare compare-tool compare-files compare-hashes bench speed stack robust vectors
 test:
 	@awk '{ sub(/#.*/, ""); i = index($$0, ":") } i && $$1 != "mixing:" && (substr($$0, i + 1) " ") ~ /[ \t]mixrule[ \t]/ { print "crates.txt: only mixing may list mixrule: " $$0; bad = 1 } END { exit bad }' crates.txt
 	@sh scripts/test-listing-input
@@ -49,11 +49,27 @@ compare-files: compare-tool
 compare-hashes: compare-tool
 	@target/compare/compare/compare hashes "$(HASHES)"
 
+RELEASE = $(QUIET) rt staticlib kiban_c && $(ORACLE) && $(CARGO) --release
 bench:
-	@$(QUIET) rt staticlib kiban_c
-	@$(ORACLE)
-	@$(CARGO) --release
-	@target/compare/release/compare bench $(CALL)
+	@$(RELEASE)
+	@target/compare/release/compare bench "$(CALL)"
+
+# The figures of docs/SPEED.md made anew: its table, and its plot. For a machine that does nothing else.
+speed: bench
+	@target/compare/release/compare bench plot
+	@cp target/plot.tsv docs/speed.tsv
+	@sh scripts/draw-speed && sh scripts/speed-table
+
+# The stack that each call takes, and each program.
+stack:
+	@$(RELEASE)
+	@target/compare/release/compare stack
+	@sh scripts/stack-programs
+
+# The comparison, the C example and the package's tests under valgrind and sanitizers; ROBUST_CASES takes some five minutes.
+ROBUST_CASES ?= 20000
+robust: compare-tool
+	@sh scripts/robust $(SEED) $(ROBUST_CASES)
 
 # Writes the stored vectors anew.
 vectors: compare-tool

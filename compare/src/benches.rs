@@ -1,4 +1,4 @@
-//! The timings: one file a call, one line of `ALL` each. Medians of rounds in which ours and the Rust's runs take turns.
+//! The timings: one file a call, one line of `ALL` for each row. Medians of rounds in which ours and the Rust's runs take turns.
 mod filter;
 mod finish;
 mod get;
@@ -10,57 +10,75 @@ mod validate;
 use oracle::Rng;
 use oracle::lines::{Rec, rust_builder};
 use std::hint::black_box;
-use std::time::Instant;
 
 /// One call, timed at several sizes.
 pub trait Bench {
-    /// What a run works on, with what the last run left.
+    /// What a run works on, with what the last run left. Both sides read the same bytes where the Rust lets us.
     type Input;
     const NAME: &'static str;
-    const SIZES: &'static [usize];
+    const SIZES: &'static [usize] = &[1_000, 10_000, 65_536];
+    /// What a size counts.
+    const OF: &'static str = "keys";
+    /// What either side clears, allocates or copies inside the timed part.
+    const BUFFERS: &'static str = "none";
     /// Whether a run leaves the input fit for the next one; if not, each is prepared and timed alone.
     const REPEATS: bool = true;
+    /// Whether a run works on all keys, and not on one.
+    const WHOLE: bool = false;
+    /// Whether `bench plot` measures it.
+    const PLOTTED: bool = false;
     fn input(size: usize) -> Self::Input;
-    /// Before each timed row of runs; not timed.
-    fn prepare(_: &mut Self::Input) {}
+    /// Before each timed row of runs, on either side; not timed. `round` counts the rounds: a new round may bring new input, the same for
+    /// both sides, so that the processor can't learn by heart which way each test goes.
+    fn prepare(_: &mut Self::Input, _round: usize) {}
     fn ours(input: &mut Self::Input);
     fn theirs(input: &mut Self::Input);
 }
 
 pub struct Entry {
     name: &'static str,
-    run: fn(),
+    sizes: &'static [usize],
+    plotted: bool,
+    measure: fn(usize) -> Row,
 }
 const fn entry<B: Bench>() -> Entry {
-    Entry { name: B::NAME, run: run::<B> }
+    Entry { name: B::NAME, sizes: B::SIZES, plotted: B::PLOTTED, measure: measure::<B> }
 }
 
 pub const ALL: &[Entry] = &[
     entry::<mix::Mix>(),
     entry::<hash::Hash>(),
-    entry::<finish::Finish>(),
-    entry::<validate::Validate>(),
-    entry::<get::Hit>(),
-    entry::<get::Miss>(),
-    entry::<filter::Build>(),
-    entry::<filter::Ask>(),
     entry::<sort::Random>(),
     entry::<sort::Rising>(),
     entry::<sort::Falling>(),
     entry::<sort::Equal>(),
+    entry::<finish::Finish>(),
+    entry::<finish::Package>(),
+    entry::<validate::Validate>(),
+    entry::<get::Hit>(),
+    entry::<get::Empty>(),
+    entry::<get::Miss>(),
+    entry::<filter::Build>(),
+    entry::<filter::Package>(),
+    entry::<filter::AskOne>(),
+    entry::<filter::AskBytes>(),
+    entry::<filter::AskAll>(),
 ];
 
-/// Records of so many keys of 16 bytes, one version of 8 bytes each.
-fn records(keys: usize) -> Vec<Rec> {
-    let mut r = Rng(keys as u64);
+/// The key counts of the plot.
+const PLOT: &[usize] = &[1_000, 2_000, 4_000, 8_000, 16_000, 32_000, 65_536];
+
+/// Records of so many keys of 16 bytes, one version each with a value of so many bytes.
+fn records(keys: usize, length: u64, seed: usize) -> Vec<Rec> {
+    let mut r = Rng((keys + seed) as u64);
     let mut drawn: Vec<Vec<u8>> = (0..keys).map(|_| r.bytes(16)).collect();
     drawn.sort();
-    let record = |(i, key)| Rec { new: true, kind: 1, key, seq: i as u64, len: 8, offset: 8 * i as u64 };
+    let record = |(i, key)| Rec { new: true, kind: 1, key, seq: i as u64, len: length, offset: length * i as u64 };
     drawn.into_iter().enumerate().map(record).collect()
 }
 /// Their body, made by the Rust, and the keys.
-fn body(keys: usize) -> (Vec<u8>, Vec<Vec<u8>>) {
-    let recs = records(keys);
+fn body(keys: usize, length: u64) -> (Vec<u8>, Vec<Vec<u8>>) {
+    let recs = records(keys, length, 0);
     (rust_builder(&recs).unwrap().finish().unwrap(), recs.into_iter().map(|x| x.key).collect())
 }
 
@@ -71,21 +89,33 @@ const ALL_ROWS: f64 = 2e8;
 const LEAST: usize = 15;
 const MOST: usize = 501;
 
+/// The processor time that this thread has had, in ns: what other programs take doesn't count, the kernel's work for this one does.
+fn clock() -> i64 {
+    unsafe extern "C" {
+        fn clock_gettime(clock: i32, time: *mut [i64; 2]) -> i32;
+    }
+    const CLOCK_THREAD_CPUTIME_ID: i32 = 3;
+    let mut time = [0; 2];
+    // SAFETY: on x86-64 Linux a timespec is two words, seconds and nanoseconds.
+    assert!(unsafe { clock_gettime(CLOCK_THREAD_CPUTIME_ID, &mut time) } == 0);
+    time[0] * 1_000_000_000 + time[1]
+}
+
 /// The time of `count` runs, in ns for each.
-fn time<B: Bench>(input: &mut B::Input, count: u64, run: fn(&mut B::Input)) -> f64 {
-    B::prepare(input);
-    let start = Instant::now();
+fn time<B: Bench>(input: &mut B::Input, round: usize, count: u64, run: fn(&mut B::Input)) -> f64 {
+    B::prepare(input, round);
+    let start = clock();
     for _ in 0..count {
         run(black_box(input));
     }
-    start.elapsed().as_nanos() as f64 / count as f64
+    (clock() - start) as f64 / count as f64
 }
 
 /// How many runs fill a timed row, by the least of a few times (another program may have taken the rest).
 fn count<B: Bench>(input: &mut B::Input) -> u64 {
     let mut count = 1;
     loop {
-        let least = (0..5).map(|_| time::<B>(input, count, B::theirs)).fold(f64::INFINITY, f64::min);
+        let least = (0..5).map(|_| time::<B>(input, 0, count, B::theirs)).fold(f64::INFINITY, f64::min);
         if least * count as f64 >= ROW {
             return count;
         }
@@ -93,30 +123,95 @@ fn count<B: Bench>(input: &mut B::Input) -> u64 {
     }
 }
 
-fn median(mut times: Vec<f64>) -> f64 {
+/// The value at a fraction of the times in rising order.
+fn at(times: &mut [f64], fraction: f64) -> f64 {
     times.sort_by(f64::total_cmp);
-    times[times.len() / 2]
+    times[((times.len() - 1) as f64 * fraction).round() as usize]
 }
 
-fn run<B: Bench>() {
-    for &size in B::SIZES {
-        let mut input = B::input(size);
-        let count = if B::REPEATS { count::<B>(&mut input) } else { 1 };
-        let row = time::<B>(&mut input, count, B::theirs) * count as f64;
-        let (mut ours, mut theirs) = (Vec::new(), Vec::new());
-        for _ in 0..((ALL_ROWS / row) as usize).clamp(LEAST, MOST) {
-            ours.push(time::<B>(&mut input, count, B::ours));
-            theirs.push(time::<B>(&mut input, count, B::theirs));
+/// One row of the table: medians in ns, the middle half of the rounds' ratios, how many rounds of how many runs.
+pub struct Row {
+    call: &'static str,
+    size: usize,
+    of: &'static str,
+    ours: f64,
+    theirs: f64,
+    middle: (f64, f64),
+    rounds: usize,
+    runs: u64,
+    keys: usize,
+    buffers: &'static str,
+}
+
+/// Ours, the Rust's, ours, the Rust's ..; the side that begins changes from round to round.
+fn measure<B: Bench>(size: usize) -> Row {
+    let mut input = B::input(size);
+    let runs = if B::REPEATS { count::<B>(&mut input) } else { 1 };
+    let row = time::<B>(&mut input, 0, runs, B::theirs) * runs as f64;
+    let rounds = ((ALL_ROWS / row) as usize).clamp(LEAST, MOST);
+    let (mut ours, mut theirs, mut ratios) = (Vec::new(), Vec::new(), Vec::new());
+    time::<B>(&mut input, 0, runs, B::ours);
+    for round in 0..rounds {
+        if round % 2 == 1 {
+            theirs.push(time::<B>(&mut input, round, runs, B::theirs));
         }
-        let (o, t) = (median(ours), median(theirs));
-        println!("{:<24} {:>9} {:>14.2} {:>14.2} {:>8.2}", B::NAME, size, o, t, o / t);
+        ours.push(time::<B>(&mut input, round, runs, B::ours));
+        if round % 2 == 0 {
+            theirs.push(time::<B>(&mut input, round, runs, B::theirs));
+        }
+        ratios.push(ours[round] / theirs[round]);
+    }
+    Row {
+        call: B::NAME,
+        size,
+        of: B::OF,
+        ours: at(&mut ours, 0.5),
+        theirs: at(&mut theirs, 0.5),
+        middle: (at(&mut ratios, 0.25), at(&mut ratios, 0.75)),
+        rounds,
+        runs,
+        keys: if B::WHOLE { size } else { 1 },
+        buffers: B::BUFFERS,
     }
 }
 
-/// Prints the table: nanoseconds a call, and ours by the Rust's.
+const HEAD: &str =
+    "call\tn\tof\tours ns\tRust ns\tratio\tmiddle half\trounds\truns a round\tkeys a run\tin the timed part\n";
+
+impl Row {
+    /// One line, with tabs between the fields that HEAD names.
+    fn line(&self) -> String {
+        let Row { call, size, of, ours, theirs, middle: (low, high), rounds, runs, keys, buffers } = self;
+        let times = format!("{ours:.1}\t{theirs:.1}\t{:.2}\t{low:.2} to {high:.2}", ours / theirs);
+        format!("{call}\t{size}\t{of}\t{times}\t{rounds}\t{runs}\t{keys}\t{buffers}\n")
+    }
+    fn print(&self) {
+        let Row { call, size, of, ours, theirs, middle: (low, high), rounds, runs, buffers, .. } = self;
+        let (ratio, size, runs) = (ours / theirs, format!("{size} {of}"), format!("{rounds}x{runs}"));
+        println!(
+            "{call:<22} {size:>13} {ours:>13.1} {theirs:>13.1} {ratio:>6.2} {low:>5.2} to {high:<5.2} {runs:>9}  {buffers}"
+        );
+    }
+}
+
+/// Prints the table and writes it to a file. `plot` measures what the plot shows, at its key counts; a call's name, that call.
 pub fn run_all(only: &str) -> bool {
-    println!("{:<24} {:>9} {:>14} {:>14} {:>8}", "call", "size", "ours ns", "Rust ns", "ratio");
-    ALL.iter().filter(|b| b.name.contains(only)).for_each(|b| (b.run)());
-    println!("medians of {LEAST} to {MOST} rounds in turn; sizes are bytes or keys");
-    true
+    oracle::TRAILER.store(false, std::sync::atomic::Ordering::Relaxed);
+    let plot = only == "plot";
+    let file = if plot { "target/plot.tsv" } else { "target/bench.tsv" };
+    println!(
+        "{:<22} {:>13} {:>13} {:>13} {:>6} {:>14} {:>9}  in the timed part",
+        "call", "n", "ours ns", "Rust ns", "ratio", "middle half", "runs"
+    );
+    let mut text = HEAD.to_string();
+    let named = |e: &&Entry| if plot { e.plotted } else { e.name.contains(only) };
+    for entry in ALL.iter().filter(named) {
+        for &size in if plot { PLOT } else { entry.sizes } {
+            let row = (entry.measure)(size);
+            row.print();
+            text += &row.line();
+        }
+    }
+    println!("medians of rounds in turn; runs: rounds x runs a round, on each side; written to {file}");
+    std::fs::write(file, text).is_ok()
 }

@@ -4,6 +4,7 @@ mod calls;
 mod numbers;
 mod plant;
 mod progress;
+mod stack;
 mod stored;
 mod table;
 mod tables;
@@ -20,7 +21,8 @@ const USAGE: &str = "usage:
     compare filter FILTER_FILE [HASHES_FILE]    a stored filter, asked for these hashes, or for drawn ones
     compare sample DIR [KEYS]                   writes such files: a small plant, or one of so many drawn keys
     compare compare SEED CASES [CALL [JOBS]]    drawn cases of every call, or of those with CALL in their name
-    compare bench [CALL]                        times
+    compare bench [CALL | plot]                 times, or those that docs/speed.svg shows
+    compare stack                               the stack that each call takes
     compare vectors                             writes the stored vectors anew
     compare oracle COMMAND ..                   the old Rust alone
 It exits with 0 where nothing differs, 1 where something does, 2 where it can't run.";
@@ -60,6 +62,7 @@ fn command(words: &[&str]) -> Ended {
             compare(Plan { seed, cases, jobs: number(word(4), 1)? }, word(3))
         }
         ["bench", ..] => Ok(benches::run_all(word(1))),
+        ["stack"] => Ok(stack::run_all()),
         ["vectors"] => Ok(stored::write()),
         ["index", index, data] => plant::index::run(index, data),
         ["hashes", hashes] => plant::hashes::run(hashes),

@@ -140,6 +140,10 @@ impl Prepared {
         p.0.bytes = with_trailer(body).into();
         p
     }
+    /// The bytes that the index holds.
+    pub fn bytes(&self) -> &[u8] {
+        &self.0.bytes
+    }
     pub fn validate(&self) -> bool {
         self.0.validate().is_ok()
     }

