@@ -1,13 +1,10 @@
 -- What the boundary's checks leave of the calls of the filter; what stands in front of the answers while they are asked. Assumes nothing.
-use mathlib.Core.Path.{_≡_, refl, sym, ap, subst, _∙_}
-use mathlib.Core.List.{List, [], _∷_, map}
-use mathlib.Core.Logic.{_⊎_, inl, inr}
-use denote.Enum.Declared.{tagOf}
-use types.Run.{OneOf}
+use mathlib.Core.Path.{_≡_, refl, sym, ap, ap₂, _∙_}
+use mathlib.Core.List.{List, [], _∷_, _++_, map}
 use Prim.Native.Nat.{ℕ, _+_, _-_, _*_, _^_, _≤_, _<_}
 use native.Mathlib.Omega.{arith}
-use lib.ListN.{length, getD, set, drop, length-map, List·getD-map}
-use lib.Seq.{paste}
+use lib.ListN.{length, getD, set, take, drop, replicate, length-map, List·getD-map}
+use lib.Seq.{paste, length-take-le}
 use Rattle.words.specs.Field.{splice}
 use Rattle.fuse.specs.declared.Sizes.{Sizes}
 use Rattle.fuse.specs.Positions.{cellsIn}
@@ -17,13 +14,13 @@ use Rattle.filter.specs.declared.SstFilter.the-variants.{Positive, Fuse, Refuse
 use Rattle.filter.specs.declared.Built.{Built}
 use Rattle.filter.specs.declared.Built.the-variants as built
 use Rattle.filter.specs.Reading.{readOf, readRefusal}
-use Rattle.filter.specs.Asking.{askOf}
+use Rattle.filter.specs.Asking.{askCellsOf, askOf}
 use Rattle.filter.specs.Building.{BuildPost, builtRefusal}
-use Rattle.filter.proofs.SstFilter.{the-type}
-use Rattle.filter.proofs.ReadLaws.{read-short, fuse-accepted}
+use Rattle.filter.proofs.ReadLaws.{fuse-accepted}
+use Rattle.filter.proofs.AskLaws.{ask-positive}
 use Rattle.filter.proofs.BuiltLaws.{built-usable}
 use Rattle.finish.proofs.RowLaws.{splice-none}
-use Rattle.kiban_c.specs.FilterCalls.{builtValues, FilterBuildCall, readValues, FilterReadCall, cellsAskOf, askAllValues, FilterAskAllCall}
+use Rattle.kiban_c.specs.FilterCalls.{builtValues, FilterBuildCall, readValues, FilterReadCall, askNumber, filterAskOf, cellsAskOf, askAllValues, FilterAskAllCall}
 use Rattle.kiban_c.proofs.LentLaws.{first-number, first-left, none-number, none-left, short, enough, put-length, put-next, put-whole}
 
 -- ---- building
@@ -101,25 +98,16 @@ module _ (f : ℕ → ℕ) (hashes answers after : List ℕ) (i : ℕ) (l : leng
 
 -- ---- asking for all
 
--- of the three variants, what is one of the first two is not refused
-pub accepted : (filter : SstFilter) → OneOf (0 ∷ 1 ∷ []) (tagOf the-type filter) → filter ≡ Refused → ⊥
-accepted filter k e = neither (subst (λ (z : SstFilter). OneOf (0 ∷ 1 ∷ []) (tagOf the-type z)) e k)
-  where
-    neither : (_≡_ {A = ℕ} 2 0) ⊎ (_≡_ {A = ℕ} 2 1) → ⊥
-    neither (inl z) = omega arith
-    neither (inr z) = omega arith
+-- a Positive filter answers 1 for every hash
+positive-ones : (bytes hashes : List ℕ) → readOf bytes ≡ Positive → map (filterAskOf bytes) hashes ≡ replicate (length hashes) 1
+unfolding askOf
+positive-ones bytes [] e = refl
+positive-ones bytes (h ∷ hs) e = ap₂ _∷_ (ap askNumber (sym (ask-positive (readOf bytes) (drop 48 bytes) h e))) (positive-ones bytes hs e)
 
--- a filter that reading accepts has 48 bytes and more
-pub header-whole : (bytes : List ℕ) → (readOf bytes ≡ Refused → ⊥) → 48 ≤ length bytes
-header-whole bytes a =
-    let short : length bytes < 48 → ⊥ = λ s. a (sym (read-short bytes s)) in
-    omega arith
-
--- what is not refused has a number for each hash
-answers-whole : (bytes hashes : List ℕ) (filter : SstFilter) → (filter ≡ Refused → ⊥) → (readRefusal filter ≡ 0) × (askAllValues filter bytes hashes ≡ askAllValues Positive bytes hashes)
-answers-whole bytes hashes Positive a = (refl, refl)
-answers-whole bytes hashes (Fuse s) a = (refl, refl)
-answers-whole bytes hashes Refused a = absurd (a refl)
+-- a Fuse filter answers what its sizes answer beside its cells
+fuse-each : (bytes hashes : List ℕ) (s : Sizes) → readOf bytes ≡ Fuse s → map (filterAskOf bytes) hashes ≡ map (cellsAskOf s (drop 48 bytes)) hashes
+unfolding askOf
+fuse-each bytes hashes s e = ap (λ (f : SstFilter). map (λ (h : ℕ). askNumber (askCellsOf f (drop 48 bytes) h)) hashes) e
 
 module _ {bytes hashes answers : List ℕ} where
   pub all-refused : length answers < length hashes → FilterAskAllCall bytes hashes answers 6 answers
@@ -128,17 +116,23 @@ module _ {bytes hashes answers : List ℕ} where
       record { number = first-number f (omega arith) _; answers-after = first-left f (omega arith) _ _ }
 
   module _ (h : length hashes ≤ length answers) where
-    pub all-unread : Refused ≡ readOf bytes → FilterAskAllCall bytes hashes answers 15 answers
-    all-unread e =
+    all-made : (r : SstFilter) {answers' : List ℕ} → readOf bytes ≡ r → answers' ≡ splice answers 0 (askAllValues r bytes hashes) → FilterAskAllCall bytes hashes answers (readRefusal r) answers'
+    all-made r e av =
         let c = enough answers (length hashes) h in
         record {
-          number = ap readRefusal e ∙ none-number c _;
-          answers-after = sym (splice-none answers 0) ∙ ap (λ (z : SstFilter). splice answers 0 (askAllValues z bytes hashes)) e ∙ none-left c _ _;
+          number = ap readRefusal (sym e) ∙ none-number c _;
+          answers-after = av ∙ ap (λ (z : SstFilter). splice answers 0 (askAllValues z bytes hashes)) (sym e) ∙ none-left c _ _;
         }
 
-    pub all-asked : {answers' : List ℕ} → (readOf bytes ≡ Refused → ⊥) → answers' ≡ splice answers 0 (map (cellsAskOf (readOf bytes) (drop 48 bytes)) hashes) → FilterAskAllCall bytes hashes answers 0 answers'
-    unfolding askOf
-    all-asked a av =
-        let c = enough answers (length hashes) h in
-        let w = answers-whole bytes hashes (readOf bytes) a in
-        record { number = sym (w .0) ∙ none-number c _; answers-after = av ∙ ap (splice answers 0) (sym (w .1)) ∙ none-left c _ _ }
+    pub all-unread : readOf bytes ≡ Refused → FilterAskAllCall bytes hashes answers 15 answers
+    all-unread e = all-made Refused e (sym (splice-none answers 0))
+
+    pub all-positive : (front : List ℕ) → readOf bytes ≡ Positive → front ≡ replicate (length (take (length hashes) answers)) 1 → FilterAskAllCall bytes hashes answers 0 (front ++ drop (length hashes) answers)
+    unfolding splice
+    all-positive front e f =
+        let ones = f ∙ ap (λ (n : ℕ). replicate n 1) (length-take-le (length hashes) answers h) ∙ sym (positive-ones bytes hashes e) in
+        let past : length hashes ≡ 0 + length (map (filterAskOf bytes) hashes) = omega (arith, length-map hashes (filterAskOf bytes)) in
+        all-made Positive e (ap₂ (λ (l : List ℕ) (n : ℕ). l ++ drop n answers) ones past)
+
+    pub all-fuse : (s : Sizes) {answers' : List ℕ} → readOf bytes ≡ Fuse s → answers' ≡ splice answers 0 (map (cellsAskOf s (drop 48 bytes)) hashes) → FilterAskAllCall bytes hashes answers 0 answers'
+    all-fuse s e av = all-made (Fuse s) e (av ∙ ap (splice answers 0) (sym (fuse-each bytes hashes s e)))

@@ -5,6 +5,7 @@ use mathlib.Core.List.{List, [], _∷_, map}
 use lib.ListN.{length}
 use Rattle.laws.specs.Refusals.{Cause}
 use Rattle.words.specs.Field.{splice}
+use Rattle.fuse.specs.declared.Sizes.{Sizes}
 use Rattle.fuse.specs.Positions.{cellsIn}
 use Rattle.sort.specs.Sort.{sorted}
 use Rattle.filter.specs.declared.SstFilter.{SstFilter}
@@ -72,9 +73,9 @@ askNumber answer.Refused = 15
 abbrev pub filterAskOf : (bytes : List ℕ) (hash : ℕ) → ℕ
 filterAskOf bytes hash = askNumber (askOf bytes hash)
 
--- the same from the filter that was read, beside its cells
-abbrev pub cellsAskOf : SstFilter → (cells : List ℕ) (hash : ℕ) → ℕ
-cellsAskOf filter cells hash = askNumber (askCellsOf filter cells hash)
+-- the same from the sizes of a Fuse filter that was read, beside its cells
+abbrev pub cellsAskOf : Sizes → (cells : List ℕ) (hash : ℕ) → ℕ
+cellsAskOf s cells hash = askNumber (askCellsOf (read.Fuse s) cells hash)
 
 -- the number of each hash, in their order; none where reading refuses
 abbrev pub askAllValues : SstFilter → (bytes hashes : List ℕ) → List ℕ

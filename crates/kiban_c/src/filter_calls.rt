@@ -4,6 +4,7 @@ use filter::Answer;
 use filter::Built;
 use filter::SstFilter;
 use fuse::Sizes;
+use words::part;
 ghost use mathlib.Core.List.{map};
 ghost use mathlib.Core.Path.{_≡_};
 ghost use Prim.Native.Nat.{_≤_};
@@ -80,14 +81,14 @@ pub extern "C" fn kiban_filter_ask(bytes: &[u8], hash: u64) -> u64
     number(filter::ask(bytes, hash)) as u64
 }
 
-// Puts a number for each hash in front: what the filter that was read answers beside its cells.
-fn ask_each(filter: SstFilter, cells: &[u8], hashes: &[u64], answers: &mut [u8])
+// Puts a number for each hash in front: what a Fuse filter of these sizes answers beside its cells.
+fn ask_each(s: Sizes, cells: &[u8], hashes: &[u64], answers: &mut [u8])
     requires { ⌜ length (now hashes) ≤ length (now answers) ⌝ }
-    ensures { λ _. ⌜ now (answers .exit) ≡ splice (now (answers .entry)) 0 (map (cellsAskOf filter (now (cells .entry))) (now (hashes .entry))) ⌝ }
+    ensures { λ _. ⌜ now (answers .exit) ≡ splice (now (answers .entry)) 0 (map (cellsAskOf s (now (cells .entry))) (now (hashes .entry))) ⌝ }
 {
     let mut i = 0;
     while i < hashes.len() {
-        answers[i] = number(filter::ask_cells(filter, cells, hashes[i]));
+        answers[i] = number(filter::ask_cells(SstFilter::Fuse(s), cells, hashes[i]));
         i += 1;
     }
 }
@@ -100,10 +101,15 @@ pub extern "C" fn kiban_filter_ask_all(bytes: &[u8], hashes: &[u64], answers: &m
     if answers.len() < hashes.len() {
         return 6;
     }
-    let read = filter::read(bytes);
-    if let SstFilter::Refused = read {
-        return 15;
+    match filter::read(bytes) {
+        SstFilter::Positive => {
+            part::fill(&mut answers[..hashes.len()], 1);
+            0
+        }
+        SstFilter::Fuse(s) => {
+            ask_each(s, &bytes[Sizes::HEADER..], hashes, answers);
+            0
+        }
+        SstFilter::Refused => 15,
     }
-    ask_each(read, &bytes[Sizes::HEADER..], hashes, answers);
-    0
 }

@@ -12,15 +12,15 @@ use Rattle.kiban_c.proofs.filter_calls.ask_each.Statement.{statement}
 use Rattle.kiban_c.proofs.filter_calls.ask_each.Tie as tie
 
 abbrev Inv-loop : tie.InvT-loop
-Inv-loop filter cells hashes answers₀ i₀ answers i = (i ≤ length hashes) × (answers ≡ paste answers₀ 0 (map (cellsAskOf filter cells) hashes) i)
+Inv-loop s cells hashes answers₀ i₀ answers i = (i ≤ length hashes) × (answers ≡ paste answers₀ 0 (map (cellsAskOf s cells) hashes) i)
 
 abbrev μ-loop : tie.MeasureT-loop
-μ-loop filter cells hashes answers₀ i₀ answers i = length hashes - i
+μ-loop s cells hashes answers₀ i₀ answers i = length hashes - i
 
 loop-holds : tie.Need-loop-holds Inv-loop μ-loop
 loop-holds c =
     let a = c .before .before .before .args in
-    (search needs, paste-zero (a .answers .now) 0 (map (cellsAskOf (a .filter) (a .cells .now)) (a .hashes .now)))
+    (search needs, paste-zero (a .answers .now) 0 (map (cellsAskOf (a .s) (a .cells .now)) (a .hashes .now)))
 
 mul-ask-cells : tie.Need-mul-ask-cells Inv-loop μ-loop
 mul-ask-cells c = search needs
@@ -38,7 +38,7 @@ slice-write-answers : tie.Need-slice-write-answers Inv-loop μ-loop
 slice-write-answers c =
     let a = c .before .before .before .before .before .before .before .before .args in
     let k = c .before .before .before .before .loop in
-    omega (arith, each-length (cellsAskOf (a .filter) (a .cells .now)) (a .hashes .now) (a .answers .now) (k .answers) (k .i) (c .before .before .before .before .before .before .before .before .pre) (k .inv .1) (k .inv .0))
+    omega (arith, each-length (cellsAskOf (a .s) (a .cells .now)) (a .hashes .now) (a .answers .now) (k .answers) (k .i) (c .before .before .before .before .before .before .before .before .pre) (k .inv .1) (k .inv .0))
 
 add-i : tie.Need-add-i Inv-loop μ-loop
 add-i c = search needs
@@ -51,7 +51,7 @@ loop-again c =
     let a = c .before .before .before .before .before .before .before .before .args in
     let k = c .before .before .before .before .loop in (
       search needs,
-      each-next (cellsAskOf (a .filter) (a .cells .now)) (a .hashes .now) (a .answers .now) (k .answers) (k .i) (c .before .before .before .before .before .before .before .before .pre) (k .inv .1) _
+      each-next (cellsAskOf (a .s) (a .cells .now)) (a .hashes .now) (a .answers .now) (k .answers) (k .i) (c .before .before .before .before .before .before .before .before .pre) (k .inv .1) _
           (c .before .before .before .loop-test .taken) (c .number .ensures ∙ ap askNumber (c .before .ask-cells .ensures)),
     )
 
@@ -59,13 +59,13 @@ same-length : tie.Need-same-length Inv-loop μ-loop
 same-length c =
     let a = c .before .before .before .before .before .args in
     let k = c .before .loop in
-    each-length (cellsAskOf (a .filter) (a .cells .now)) (a .hashes .now) (a .answers .now) (k .answers) (k .i) (c .before .before .before .before .before .pre) (k .inv .1) (k .inv .0)
+    each-length (cellsAskOf (a .s) (a .cells .now)) (a .hashes .now) (a .answers .now) (k .answers) (k .i) (c .before .before .before .before .before .pre) (k .inv .1) (k .inv .0)
 
 returns : tie.Need-returns Inv-loop μ-loop
 returns c =
     let a = c .before .before .before .before .before .args in
     let k = c .before .loop in
-    each-whole (cellsAskOf (a .filter) (a .cells .now)) (a .hashes .now) (a .answers .now) (k .answers) (k .i) (c .before .before .before .before .before .pre) (k .inv .1) (omega arith)
+    each-whole (cellsAskOf (a .s) (a .cells .now)) (a .hashes .now) (a .answers .now) (k .answers) (k .i) (c .before .before .before .before .before .pre) (k .inv .1) (omega arith)
 
 pub ask-each-spec : {M : Type 1} → statement M
 ask-each-spec =

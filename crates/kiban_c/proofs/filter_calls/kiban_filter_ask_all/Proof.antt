@@ -1,13 +1,13 @@
 -- `kiban_filter_ask_all` answers its own check, then reading's refusal, and then what each hash is answered. Assumes nothing.
 use Prim.Native.Nat.{ℕ}
 use native.Mathlib.Omega.{arith}
-use mathlib.Core.Path.{sym, ap₂, _∙_}
+use mathlib.Core.Path.{sym, ap, _∙_}
 use mathlib.Core.List.{List, map}
+use lib.Seq.{length-take-le}
 use Rattle.words.specs.Field.{splice}
-use Rattle.filter.specs.declared.SstFilter.{SstFilter}
 use Rattle.filter.proofs.AskLaws.{cells-part}
 use Rattle.kiban_c.specs.FilterCalls.{cellsAskOf}
-use Rattle.kiban_c.proofs.FilterCallLaws.{accepted, header-whole, all-refused, all-unread, all-asked}
+use Rattle.kiban_c.proofs.FilterCallLaws.{fuse-cells, all-refused, all-unread, all-positive, all-fuse}
 use borrow.Author.Needs.{needs}
 use Rattle.kiban_c.proofs.filter_calls.kiban_filter_ask_all.Statement.{statement}
 use Rattle.kiban_c.proofs.filter_calls.kiban_filter_ask_all.Tie as tie
@@ -21,14 +21,27 @@ read-requires c κs = search needs
 enum-told : tie.Need-enum-told
 enum-told c = search needs
 
-returns-2 : tie.Need-returns-2
-returns-2 c = all-unread (c .before .before .before .if1 .left) (sym (c .enum-told .given .1) ∙ c .before .before .read .ensures)
+slice-relend-prefix-fill : tie.Need-slice-relend-prefix-fill
+slice-relend-prefix-fill c = search needs
+
+slice-aggregate-fill : tie.Need-slice-aggregate-fill
+slice-aggregate-fill c = sym (length-take-le _ _ (c .before .before .before .before .if1 .left))
+
+fill-requires : tie.Need-fill-requires
+fill-requires c κs = search needs
+
+enum-known-s : tie.Need-enum-known-s
+enum-known-s c = search needs
 
 sub-ask-each : tie.Need-sub-ask-each
-sub-ask-each c = omega (arith, header-whole (c .before .before .before .before .before .before .args .bytes .now) (λ z. accepted _ (c .match .keys2) (c .before .read .ensures ∙ z)))
+sub-ask-each c =
+    let z = c .before .s .given in
+    omega (arith, fuse-cells (c .before .before .before .before .before .before .before .before .args .bytes .now) (z .0 .0) (sym (c .before .before .before .read .ensures) ∙ z .1) .0)
 
 part-ask-each-start : tie.Need-part-ask-each-start
-part-ask-each-start c = omega (arith, header-whole (c .before .before .before .before .before .before .args .bytes .now) (λ z. accepted _ (c .match .keys2) (c .before .read .ensures ∙ z)))
+part-ask-each-start c =
+    let z = c .before .s .given in
+    omega (arith, fuse-cells (c .before .before .before .before .before .before .before .before .args .bytes .now) (z .0 .0) (sym (c .before .before .before .read .ensures) ∙ z .1) .0)
 
 part-ask-each-end : tie.Need-part-ask-each-end
 part-ask-each-end c = search needs
@@ -36,16 +49,28 @@ part-ask-each-end c = search needs
 ask-each-requires : tie.Need-ask-each-requires
 ask-each-requires c κs = search needs
 
+enum-told-2 : tie.Need-enum-told-2
+enum-told-2 c = search needs
+
 same-length : tie.Need-same-length
 same-length c = search needs
 
+returns-2 : tie.Need-returns-2
+returns-2 c = all-positive (c .before .before .before .before .before .before .before .if1 .left) _ (sym (c .before .before .before .before .before .before .read .ensures) ∙ c .before .before .before .before .enum-told .given .1) (c .before .before .fill .ensures)
+
+same-length-2 : tie.Need-same-length-2
+same-length-2 c = search needs
+
 returns-3 : tie.Need-returns-3
 returns-3 c =
-    let a = c .before .before .before .before .before .before .before .before .before .before .before .args in
-    let e = c .before .before .before .before .before .before .read .ensures in
-    all-asked (c .before .before .before .before .before .before .before .if1 .left) (λ z. accepted _ (c .before .before .before .before .before .match .keys2) (e ∙ z))
-    (c .before .before .ask-each .ensures
-    ∙ ap₂ (λ (f : SstFilter) (cells : List ℕ). splice (a .answers .now) 0 (map (cellsAskOf f cells) (a .hashes .now))) e (cells-part (a .bytes .now)))
+    let a = c .before .before .before .before .before .before .before .before .before .before .before .before .before .args in
+    let z = c .before .before .before .before .before .before .s .given in
+    let cells = cells-part (a .bytes .now) in
+    all-fuse (c .before .before .before .before .before .before .before .before .before .if1 .left) (z .0 .0) (sym (c .before .before .before .before .before .before .before .before .read .ensures) ∙ z .1)
+    (c .before .before .ask-each .ensures ∙ ap (λ (l : List ℕ). splice (a .answers .now) 0 (map (cellsAskOf (z .0 .0) l) (a .hashes .now))) cells)
+
+returns-4 : tie.Need-returns-4
+returns-4 c = all-unread (c .before .before .before .if1 .left) (sym (c .before .before .read .ensures) ∙ c .enum-told2 .given .1)
 
 pub kiban-filter-ask-all-spec : {M : Type 1} → statement M
 kiban-filter-ask-all-spec =
@@ -54,10 +79,17 @@ kiban-filter-ask-all-spec =
     returns
     read-requires
     enum-told
-    returns-2
+    slice-relend-prefix-fill
+    slice-aggregate-fill
+    fill-requires
+    enum-known-s
     sub-ask-each
     part-ask-each-start
     part-ask-each-end
     ask-each-requires
+    enum-told-2
     same-length
-    returns-3)
+    returns-2
+    same-length-2
+    returns-3
+    returns-4)
