@@ -35,6 +35,10 @@ pub trait Bench {
     fn theirs(input: &mut Self::Input);
 }
 
+/// The buffers of a call that is lent them, and of the package's, which has its own.
+const LENT: &str = "ours clears its workspace; the Rust allocates workspace and output";
+const ALLOCATED: &str = "both allocate workspace and output; ours clears its workspace too";
+
 pub struct Entry {
     name: &'static str,
     sizes: &'static [usize],
