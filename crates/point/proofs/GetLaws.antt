@@ -33,7 +33,7 @@ use Rattle.point.specs.declared.Located.the-variants as located
 use Rattle.point.specs.declared.Opened.{Opened}
 use Rattle.point.specs.declared.Opened.the-variants as opened
 use Rattle.point.specs.Layout.{headerRefusal, seedIn, keysIn, arenaIn, pilotOf, directPast, slotOf, slotPlace}
-use Rattle.point.specs.Get.{locateHash, locateOf, openRecordOf, openAt, openOf, firstOfAll, firstFor, answerOf, getOf, partOf, valueOf}
+use Rattle.point.specs.Get.{locateHash, locateOf, openRecordOf, openAt, openOf, firstOfAll, firstFor, answerOf, getOf, partOf, valueOf, startOf, ValuePost}
 
 -- ---- the slot: n keys, pilot g, slot s, fingerprint f, u the 16 bits read, arena start a, offset o
 
@@ -201,15 +201,29 @@ pub get-fits : (body : List ℕ) (size : ℕ) (key : List ℕ) (limit : Limit) (
 unfolding getOf
 get-fits body size key limit r e = answer-fits size (firstFor body (openOf body key) limit) r e
 
-module _ (body bytes key : List ℕ) (limit : Limit) (a : Answer) (isa : a ≡ getOf body (length bytes) key limit) where
-  pub value-found : (r : Record) → a ≡ Found r → valueOf body bytes key limit ≡ take (r .offset + r .length - r .offset) (drop (r .offset) bytes)
-  unfolding valueOf partOf
-  value-found r e = rw (← isa, e, add-sub-cancel-left (r .offset) (r .length))
+-- the part that value hands back, by what get answered: its bytes, and where it starts
+module _ (body bytes key : List ℕ) (limit : Limit) (a : Answer) (isa : a ≡ getOf body (length bytes) key limit) (lent : ℕ × ℕ) {place : ℕ × ℕ} (block : place .0 ≡ lent .0) where
+  pub value-found : (r : Record) → a ≡ Found r → place .1 ≡ lent .1 + r .offset
+      → ValuePost body bytes key limit lent (take (r .offset + r .length - r .offset) (drop (r .offset) bytes)) place
+  unfolding valueOf partOf startOf
+  value-found r e at = record {
+    value = rw (← isa, e, add-sub-cancel-left (r .offset) (r .length));
+    block = block;
+    start = at ∙ ap (λ (x : Answer). lent .1 + startOf x) (sym e ∙ isa);
+  }
 
-  pub value-nothing : a ≡ Nothing → valueOf body bytes key limit ≡ []
-  unfolding valueOf partOf
-  value-nothing e = rw (← isa, e)
+  pub value-nothing : a ≡ Nothing → place .1 ≡ lent .1 → ValuePost body bytes key limit lent [] place
+  unfolding valueOf partOf startOf
+  value-nothing e at = record {
+    value = rw (← isa, e);
+    block = block;
+    start = let s : startOf (getOf body (length bytes) key limit) ≡ 0 = ap startOf (sym isa ∙ e) in omega arith;
+  }
 
-  pub value-refused : (n : ℕ) → a ≡ Refused n → valueOf body bytes key limit ≡ []
-  unfolding valueOf partOf
-  value-refused n e = rw (← isa, e)
+  pub value-refused : (n : ℕ) → a ≡ Refused n → place .1 ≡ lent .1 → ValuePost body bytes key limit lent [] place
+  unfolding valueOf partOf startOf
+  value-refused n e at = record {
+    value = rw (← isa, e);
+    block = block;
+    start = let s : startOf (getOf body (length bytes) key limit) ≡ 0 = ap startOf (sym isa ∙ e) in omega arith;
+  }

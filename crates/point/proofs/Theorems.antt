@@ -1,6 +1,6 @@
 -- What is promised of reading: on a body that validation accepts, get is the lookup in its table and value that record's part of the data;
 -- a body with right header, pilots and slots over a table that keeps the rules is accepted; each call's result is fixed. Assumes nothing.
-use Prim.Native.Nat.{ℕ, _<_}
+use Prim.Native.Nat.{ℕ, _+_, _<_}
 use native.Mathlib.Omega.{arith}
 use mathlib.Core.Path.{_≡_, refl, sym, ap, _∙_}
 use mathlib.Core.List.{List, [], _++_}
@@ -29,7 +29,7 @@ use Rattle.point.specs.declared.Answer.{Answer}
 use Rattle.point.specs.declared.Answer.the-variants.{Found, Nothing, Refused}
 use Rattle.point.specs.Layout.{headerRefusal, seedIn, keysIn, bucketsIn, arenaIn}
 use Rattle.point.specs.Validate.{pilotsRefusal, slotRefusal, arenaRefusal, validateOf}
-use Rattle.point.specs.Get.{answerOf, getOf, partOf, valueOf}
+use Rattle.point.specs.Get.{answerOf, getOf, partOf, valueOf, startOf, ValuePost}
 use Rattle.point.specs.Lookup.{Newest, NoneWithin}
 use Rattle.point.specs.Table.{tableOf, keyPlace, keyOf, keySlot, Belongs, answerTo}
 use Rattle.point.proofs.HeaderLaws.{headed}
@@ -102,11 +102,14 @@ module _ (body : List ℕ) (size : ℕ) (ok : validateOf body size ≡ Accepted)
       go none f = let z : _≡_ {A = ℕ} 0 1 = cc in omega arith
       go (some s) f = let z : _≡_ {A = ℕ} 0 1 = cc in omega arith
 
--- THEOREM: value is that record's part of the data
-pub value-is-part : (body bytes key : List ℕ) (limit : Limit) → validateOf body (length bytes) ≡ Accepted → AllBytes body
-    → valueOf body bytes key limit ≡ partOf bytes (answerTo (lookup (tableOf body) key limit))
+-- THEOREM: value hands back that record's part of the lent data, at its place there
+pub value-is-part : {body bytes key : List ℕ} {limit : Limit} {lent : ℕ × ℕ} {part : List ℕ} {place : ℕ × ℕ} → ValuePost body bytes key limit lent part place
+    → validateOf body (length bytes) ≡ Accepted → AllBytes body
+    → (part ≡ partOf bytes (answerTo (lookup (tableOf body) key limit))) × (place .0 ≡ lent .0) × (place .1 ≡ lent .1 + startOf (answerTo (lookup (tableOf body) key limit)))
 unfolding valueOf
-value-is-part body bytes key limit ok all = ap (partOf bytes) (get-is-lookup body (length bytes) ok all key limit)
+value-is-part {body} {bytes} {key} {limit} {lent} P ok all =
+    let e = get-is-lookup body (length bytes) ok all key limit in
+    (P .value ∙ ap (partOf bytes) e, P .block, P .start ∙ ap (λ (a : Answer). lent .1 + startOf a) e)
 
 -- ---- the converse
 
@@ -146,5 +149,6 @@ validate-one body size r s p q = p ∙ sym q
 pub get-one : (body : List ℕ) (size : ℕ) (key : List ℕ) (limit : Limit) (r s : Answer) → r ≡ getOf body size key limit → s ≡ getOf body size key limit → r ≡ s
 get-one body size key limit r s p q = p ∙ sym q
 
-pub value-one : (body bytes key : List ℕ) (limit : Limit) (r s : List ℕ) → r ≡ valueOf body bytes key limit → s ≡ valueOf body bytes key limit → r ≡ s
-value-one body bytes key limit r s p q = p ∙ sym q
+pub value-one : {body bytes key : List ℕ} {limit : Limit} {lent : ℕ × ℕ} {r s : List ℕ} {p q : ℕ × ℕ}
+    → ValuePost body bytes key limit lent r p → ValuePost body bytes key limit lent s q → (r ≡ s) × (p ≡ q)
+value-one P Q = (P .value ∙ sym (Q .value), λ i. ((P .block ∙ sym (Q .block)) i, (P .start ∙ sym (Q .start)) i))

@@ -2,6 +2,7 @@
 use Prim.Native.Nat.{ℕ, zero, suc, _+_}
 use mathlib.Core.List.{List, [], _∷_}
 use mathlib.Core.Bool.{cond}
+use mathlib.Core.Path.{_≡_}
 use lib.Dec.{ltb, eqb}
 use lib.ListN.{length, take, drop}
 use Rattle.words.specs.Part.{sameAs}
@@ -85,6 +86,19 @@ partOf bytes (Refused n) = []
 
 unfoldable pub valueOf : (body bytes : List ℕ) → List ℕ → Limit → List ℕ
 valueOf body bytes key limit = partOf bytes (getOf body (length bytes) key limit)
+
+-- where that part starts in the data: at the record's offset, or at the data's first byte
+unfoldable pub startOf : Answer → ℕ
+startOf (Found r) = r .offset
+startOf Nothing = 0
+startOf (Refused n) = 0
+
+-- what a call of value promises of the part handed back, with the data lent at a place (its block, and how far in): the part's bytes, and that it
+-- lies in the lent data itself, from its start on
+pub record ValuePost (body bytes key : List ℕ) (limit : Limit) (lent : ℕ × ℕ) (part : List ℕ) (place : ℕ × ℕ) : Type 0 where
+  pub value : part ≡ valueOf body bytes key limit
+  pub block : place .0 ≡ lent .0
+  pub start : place .1 ≡ lent .1 + startOf (getOf body (length bytes) key limit)
 
 -- the paper's number of an answer (0 found, 1 nothing, else the refusal's) and its values (kind, sequence, offset, length)
 abbrev pub answerNumber : Answer → ℕ

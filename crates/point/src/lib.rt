@@ -15,9 +15,10 @@ ghost use mathlib.Core.Path.{_≡_};
 ghost use mathlib.Core.Bool.{false};
 ghost use Prim.Native.Nat.{_+_, _^_, _<_, _≤_};
 ghost use lib.ListN.{length};
+ghost use denote.Ref.{ptr};
 ghost use Rattle.point.specs.Layout.{magicRefusal, slotAt, dimensionRefusal, headerRefusal, seedIn, keysIn, bucketsIn, arenaIn, pilotOf, directPast, slotOf, slotPlace};
 ghost use Rattle.point.specs.Validate.{pilotsRefusal, slotTest, slotRefusal, arenaRefusal, validationRefusal, validateOf, Checked, Reached, Stepping};
-ghost use Rattle.point.specs.Get.{locateHash, locateOf, openRecordOf, openOf, answerOf, getOf, valueOf};
+ghost use Rattle.point.specs.Get.{locateHash, locateOf, openRecordOf, openOf, answerOf, getOf, ValuePost};
 ghost use Rattle.records.specs.declared.DataLength.the-variants.{Of};
 ghost use Rattle.records.specs.declared.Limit.the-variants.{UpTo};
 ghost use Rattle.records.specs.Rules.{entryRefusal};
@@ -399,9 +400,9 @@ pub fn get<'b, 'd, 'k>(body: &'b [u8], data: &'d [u8], key: &'k [u8], limit: Lim
     get_up_to(body, data.len() as u64, key, limit.number())
 }
 
-// The value of what get finds, as that part of the data; or the data's first zero bytes.
+// The value of what get finds, as that part of the lent data; or the data's first zero bytes.
 pub fn value<'b, 'd, 'k>(body: &'b [u8], data: &'d [u8], key: &'k [u8], limit: Limit) -> &'d [u8]
-    ensures { λ r. ⌜ now r ≡ valueOf (now (body .entry)) (now («data» .entry)) (now (key .entry)) limit ⌝ }
+    ensures { λ r. ⌜ ValuePost (now (body .entry)) (now («data» .entry)) (now (key .entry)) limit (ptr («data» .entry)) (now r) (ptr r) ⌝ }
 {
     let a = get(body, data, key, limit);
     match a {

@@ -1,7 +1,7 @@
 -- Demand 3 of any bytes that validation accepts for data of this size: they hold exactly one table, each slot belongs to exactly one key and
 -- each key to exactly one slot; asking gives the key's record of greatest sequence within the limit, or nothing exactly where there is none,
 -- and never 14; the value is that record's part of the data. Assumes nothing.
-use Prim.Native.Nat.{ℕ, _<_}
+use Prim.Native.Nat.{ℕ, _+_, _<_}
 use mathlib.Core.Path.{_≡_}
 use mathlib.Core.List.{List}
 use lib.ListN.{length}
@@ -13,7 +13,7 @@ use Rattle.point.specs.declared.Validated.the-variants.{Accepted}
 use Rattle.point.specs.declared.Answer.the-variants.{Found, Nothing, Refused}
 use Rattle.point.specs.Layout.{keysIn}
 use Rattle.point.specs.Validate.{validateOf}
-use Rattle.point.specs.Get.{getOf, partOf, valueOf}
+use Rattle.point.specs.Get.{getOf, partOf, startOf, ValuePost}
 use Rattle.point.specs.Table.{tableOf, HoldsTable, Belongs, OneBelow, answerTo}
 use Rattle.point.specs.Lookup.{Newest, NoneWithin}
 use Rattle.point.proofs.SlotLaws.{holds-table, slot-owner, owner-slot}
@@ -55,7 +55,8 @@ module _ (body : List ℕ) (size : ℕ) (ok : validateOf body size ≡ Accepted)
     pub never-damaged : (n : ℕ) → getOf body size key limit ≡ Refused n → ⊥
     never-damaged = get-never-refuses body size ok all key limit
 
--- THEOREM: the value handed back is the found record's part of the data, or the data's first zero bytes
-pub value-part : (body bytes key : List ℕ) (limit : Limit) → validateOf body (length bytes) ≡ Accepted → AllBytes body
-    → valueOf body bytes key limit ≡ partOf bytes (answerTo (lookup (tableOf body) key limit))
+-- THEOREM: the value handed back is the found record's part of the lent data, at its place there; or the data's first zero bytes
+pub value-part : {body bytes key : List ℕ} {limit : Limit} {lent : ℕ × ℕ} {part : List ℕ} {place : ℕ × ℕ} → ValuePost body bytes key limit lent part place
+    → validateOf body (length bytes) ≡ Accepted → AllBytes body
+    → (part ≡ partOf bytes (answerTo (lookup (tableOf body) key limit))) × (place .0 ≡ lent .0) × (place .1 ≡ lent .1 + startOf (answerTo (lookup (tableOf body) key limit)))
 value-part = value-is-part

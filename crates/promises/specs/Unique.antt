@@ -10,7 +10,7 @@ pub use Rattle.finish.proofs.Answers.{finish-one}
 pub use Rattle.point.proofs.Theorems.{validate-one}
 -- get: the answer
 pub use Rattle.point.proofs.Theorems.{get-one}
--- value: the part of the data
+-- value: the part of the data, its bytes and its place
 pub use Rattle.point.proofs.Theorems.{value-one}
 -- read: the filter
 pub use Rattle.filter.proofs.UniqueLaws.{read-unique}

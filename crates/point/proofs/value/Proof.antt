@@ -1,5 +1,5 @@
--- `value` is the part of the data that the found record names, arm by arm. Assumes nothing.
-use mathlib.Core.Path.{sym, _∙_}
+-- `value` is the part of the lent data that the found record names, arm by arm. Assumes nothing.
+use mathlib.Core.Path.{refl, sym, _∙_}
 use Rattle.point.proofs.GetLaws.{get-fits, value-found, value-nothing, value-refused}
 use native.Mathlib.Omega.{arith}
 use borrow.Author.Needs.{needs}
@@ -40,13 +40,13 @@ slice-aggregate-result-2 : tie.Need-slice-aggregate-result-2
 slice-aggregate-result-2 c = search needs
 
 returns : tie.Need-returns
-returns c = sym (value-found _ _ (c .before .before .before .before .before .before .before .before .before .args .key .now) (c .before .before .before .before .before .before .before .before .before .args .limit) _ (c .before .before .before .before .before .get .ensures) (c .before .before .before .a .given .0 .0) (c .before .before .before .a .given .1))
+returns c = value-found _ _ (c .before .before .before .before .before .before .before .before .before .args .key .now) (c .before .before .before .before .before .before .before .before .before .args .limit) _ (c .before .before .before .before .before .get .ensures) (c .before .before .before .before .before .before .before .before .before .args .«data» .ptr) refl (c .before .before .before .a .given .0 .0) (c .before .before .before .a .given .1) (omega arith)
 
 returns-2 : tie.Need-returns-2
-returns-2 c = sym (value-nothing _ _ (c .before .before .before .before .before .before .before .args .key .now) (c .before .before .before .before .before .before .before .args .limit) _ (c .before .before .before .get .ensures) (c .before .enum-told .given .1))
+returns-2 c = value-nothing _ _ (c .before .before .before .before .before .before .before .args .key .now) (c .before .before .before .before .before .before .before .args .limit) _ (c .before .before .before .get .ensures) (c .before .before .before .before .before .before .before .args .«data» .ptr) refl (c .before .enum-told .given .1) (omega arith)
 
 returns-3 : tie.Need-returns-3
-returns-3 c = sym (value-refused _ _ (c .before .before .before .before .before .before .before .args .key .now) (c .before .before .before .before .before .before .before .args .limit) _ (c .before .before .before .get .ensures) _ (c .before .enum-told2 .given .1))
+returns-3 c = value-refused _ _ (c .before .before .before .before .before .before .before .args .key .now) (c .before .before .before .before .before .before .before .args .limit) _ (c .before .before .before .get .ensures) (c .before .before .before .before .before .before .before .args .«data» .ptr) refl _ (c .before .enum-told2 .given .1) (omega arith)
 
 pub value-spec : {M : Type 1} → statement M
 value-spec =
