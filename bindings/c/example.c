@@ -1,13 +1,17 @@
 /*
- * The example of the user's document, through kiban.h: built, finished, validated, looked up, filtered and listed.
- * It prints the listing; where something differs from what is expected it says so and ends with 1.
+ * The example of the user's document, through kiban.h: built, finished, validated, looked up, filtered and listed. Then
+ * washes, one corrected and one withdrawn, and lists of keys that finish cannot place, through kiban_keys.h.
+ * It prints the listing, the figures and the keys; where something differs from what is expected it says so and ends
+ * with 1.
  */
-#include "kiban.h"
+#include "kiban_keys.h"
 
 #include <stdio.h>
 #include <string.h>
 
 enum { KEYS = 3, RECORDS = 5, ARENA = 132, BODY = 204, DATA = 116, CELLS = 3 + 256, MOST = 65536 };
+/* The most keys of a list here, and room for the arena and the body of each. */
+enum { FEW = 4, ROOM = 512 };
 
 struct record {
     const char *key;
@@ -48,39 +52,54 @@ static void numbers(void)
     expect("sorted", three[0] == 4 && three[1] == 7 && three[2] == 9, 1);
 }
 
-/* One more record in the arena. */
-static uint64_t add(uint8_t *arena, uint64_t *state, const struct record *r, uint64_t *place)
+/* One more record in an arena that has so much room. */
+static uint64_t add(uint8_t *arena, size_t room, uint64_t *state, const struct record *r, uint64_t *place)
 {
-    return kiban_add(arena, ARENA, state, KIBAN_STATE_WORDS, bytes(r->key), strlen(r->key), r->kind, r->length,
+    return kiban_add(arena, room, state, KIBAN_STATE_WORDS, bytes(r->key), strlen(r->key), r->kind, r->length,
                      r->sequence, r->new_key, place, 1);
 }
 
-/* Adds the records with their offsets; a newer version after an older is refused, and what has no room. */
+/* Adds records with their offsets; the place of the last one's. */
+static uint64_t add_all(uint8_t *arena, size_t room, uint64_t *state, const struct record *from, size_t count)
+{
+    uint64_t place = 0;
+    size_t i;
+    for (i = 0; i < count; i++) {
+        expect("add", add(arena, room, state, &from[i], &place), 0);
+        expect("set offset", kiban_set_offset(arena, room, state, KIBAN_STATE_WORDS, place, from[i].offset), 0);
+    }
+    return place;
+}
+
+/* Adds the document's records; a newer version after an older is refused, and what has no room. */
 static void build(uint8_t *arena, uint64_t *state)
 {
     const struct record newer = {"C", KIBAN_PUT, 0, 13, 0, 8}, further = {"D", KIBAN_PUT, 1, 1, 0, 8};
-    uint64_t place = 0;
-    size_t i;
-    for (i = 0; i < RECORDS; i++) {
-        expect("add", add(arena, state, &records[i], &place), 0);
-        expect("set offset", kiban_set_offset(arena, ARENA, state, KIBAN_STATE_WORDS, place, records[i].offset), 0);
-    }
-    expect("a newer version after an older", add(arena, state, &newer, &place), KIBAN_REFUSED_ORDER);
-    expect("a key more than there is room for", add(arena, state, &further, &place), KIBAN_REFUSED_BUFFER);
+    uint64_t place = add_all(arena, ARENA, state, records, RECORDS);
+    expect("a newer version after an older", add(arena, ARENA, state, &newer, &place), KIBAN_REFUSED_ORDER);
+    expect("a key more than there is room for", add(arena, ARENA, state, &further, &place), KIBAN_REFUSED_BUFFER);
     expect("used", state[0], ARENA);
     expect("keys", state[1], KEYS);
     expect("the last place", place, ARENA - 8);
 }
 
-/* Finishes the arena, and validates the body for its data and for a byte less. */
-static void finish(const uint8_t *arena, uint8_t *body)
+/* Finishes an arena of up to FEW keys: finish's number, and the body's length. */
+static uint64_t finish_few(const uint8_t *arena, const uint64_t *state, uint8_t *body, uint64_t *length)
 {
-    uint64_t wide[2 * KEYS], length = 0;
-    uint32_t narrow[8 * KEYS + 8];
-    expect("wide", kiban_finish_wide(KEYS), sizeof wide / sizeof *wide);
-    expect("narrow", kiban_finish_narrow(KEYS), sizeof narrow / sizeof *narrow);
+    uint64_t wide[2 * FEW];
+    uint32_t narrow[8 * FEW + 8];
+    return kiban_finish(arena, state[0], body, kiban_body_bytes(state[1], state[0]), wide, kiban_finish_wide(state[1]),
+                        narrow, kiban_finish_narrow(state[1]), length, 1);
+}
+
+/* Finishes the document's arena, and validates the body for its data and for a byte less. */
+static void finish(const uint8_t *arena, const uint64_t *state, uint8_t *body)
+{
+    uint64_t length = 0;
+    expect("wide", kiban_finish_wide(KEYS), 2 * KEYS);
+    expect("narrow", kiban_finish_narrow(KEYS), 8 * KEYS + 8);
     expect("the body's bytes", kiban_body_bytes(KEYS, ARENA), BODY);
-    expect("finish", kiban_finish(arena, ARENA, body, BODY, wide, 2 * KEYS, narrow, 8 * KEYS + 8, &length, 1), 0);
+    expect("finish", finish_few(arena, state, body, &length), 0);
     expect("the body's length", length, BODY);
     expect("validate", kiban_validate(body, BODY, DATA), 0);
     expect("validate for less data", kiban_validate(body, BODY, DATA - 1), KIBAN_REFUSED_VERSION);
@@ -212,6 +231,191 @@ static void empty_key(void)
     expect("sequence", answer[1], 5);
 }
 
+/* The litres of the washes, as the meter's text. */
+static const char litres[] = "8120812655";
+
+/* Tram 17's figure of 4 was corrected at 9. Tram 23's of 3 was withdrawn at 7: the tombstone's offset is the old one's. */
+static const struct record washes[] = {
+    {"tram 17", KIBAN_PUT, 1, 9, 4, 3},
+    {"tram 17", KIBAN_PUT, 0, 4, 0, 4},
+    {"tram 23", KIBAN_TOMBSTONE, 1, 7, 7, 0},
+    {"tram 23", KIBAN_PUT, 0, 3, 7, 3},
+};
+
+/* A validated body beside its data. */
+struct index {
+    const uint8_t *body, *data;
+    size_t body_length, data_length;
+};
+
+/* A tram's litres within the limit, which are a put's value; NULL if there are none: withdrawn, or no record. */
+static const uint8_t *figure(const struct index *index, const char *tram, uint64_t limit, size_t *length)
+{
+    uint64_t found[KIBAN_RECORD_WORDS]; /* kind, sequence, offset, length */
+    if (kiban_get(index->body, index->body_length, index->data, index->data_length, bytes(tram), strlen(tram), 1, limit,
+                  found, KIBAN_RECORD_WORDS) != KIBAN_FOUND || found[0] != KIBAN_PUT)
+        return NULL;
+    *length = found[3];
+    return index->data + found[2];
+}
+
+/* Prints a tram's figure within the limit; it has to be this text, or none for NULL. */
+static void show_figure(const struct index *index, const char *tram, uint64_t limit, const char *expected)
+{
+    size_t length = 0;
+    const uint8_t *value = figure(index, tram, limit, &length);
+    expect("a figure", value != NULL, expected != NULL);
+    printf("%s, limit %llu: ", tram, (unsigned long long)limit);
+    if (value && expected) {
+        expect("the figure's length", length, strlen(expected));
+        expect("the figure", memcmp(value, expected, length) != 0, 0);
+        printf("%.*s litres\n", (int)length, (const char *)value);
+    } else
+        puts("no figure");
+}
+
+/* The washes, built and asked at limits before and after the correction, and the withdrawal. */
+static void figures(void)
+{
+    uint8_t arena[ROOM], body[ROOM];
+    uint64_t state[KIBAN_STATE_WORDS] = {0, 0, 0}, length = 0;
+    struct index index = {body, bytes(litres), 0, sizeof litres - 1};
+    add_all(arena, sizeof arena, state, washes, sizeof washes / sizeof *washes);
+    expect("finish", finish_few(arena, state, body, &length), 0);
+    index.body_length = length;
+    expect("validate", kiban_validate(index.body, index.body_length, index.data_length), 0);
+    show_figure(&index, "tram 17", UINT64_MAX, "812");
+    show_figure(&index, "tram 17", 9, "812");
+    show_figure(&index, "tram 17", 8, "8120");
+    show_figure(&index, "tram 17", 3, NULL);
+    show_figure(&index, "tram 23", UINT64_MAX, NULL);
+    show_figure(&index, "tram 23", 7, NULL);
+    show_figure(&index, "tram 23", 6, "655");
+    show_figure(&index, "tram 23", 2, NULL);
+}
+
+/* The keys of the document's arena, which have several versions: each one's hash and place. */
+static void hashed_keys(const uint8_t *arena)
+{
+    struct kiban_pair hashed[KEYS];
+    size_t i;
+    kiban_hash_keys(arena, KEYS, 0, hashed);
+    for (i = 0; i < KEYS; i++) {
+        expect("a key's hash", hashed[i].first, kiban_hash(bytes("ABC") + i, 1, 0));
+        expect("a key's place", hashed[i].second, 51 * i);
+    }
+}
+
+/* Keys of 16 bytes; for each attempt the two with equal hashes, or twice 0; the first attempt that has the fewest pairs. */
+struct keys {
+    const char *keys[FEW];
+    size_t count;
+    uint8_t equal[KIBAN_ATTEMPTS][2];
+    unsigned fewest;
+};
+
+static const struct keys key_lists[] = {
+    {{"T0410-2024110300", "T0413-2024110308", "T0415-2024110308", "T0416-2024110300"}, 4,
+     {{2, 3}, {0, 1}, {0, 1}, {2, 3}, {0, 2}, {0, 2}, {0, 1}, {0, 2}}, 0},
+    {{"T0151-2019110300", "T0152-2019110308", "T0420-2019110300", "T0423-2019110308"}, 4,
+     {{0, 1}, {2, 3}, {2, 3}, {0, 1}, {0, 1}, {0, 1}, {2, 3}, {0, 0}}, 7},
+    {{"AAAAAAAABBBBBBBB", "AAAAQAAABBBBBBB\xc2"}, 2,
+     {{0, 1}, {0, 1}, {0, 1}, {0, 1}, {0, 1}, {0, 1}, {0, 1}, {0, 1}}, 0},
+    {{"W-20241103000410", "W-20241103080413"}, 2, {{0, 0}}, 0},
+};
+
+/* Adds the first so many keys of a list and finishes them: finish's number. */
+static uint64_t finish_keys(const struct keys *list, size_t count, uint8_t *arena, uint8_t *body)
+{
+    uint64_t state[KIBAN_STATE_WORDS] = {0, 0, 0}, place = 0, length = 0;
+    struct record put = {NULL, KIBAN_PUT, 1, 1, 0, 0};
+    size_t i;
+    for (i = 0; i < count; i++) {
+        put.key = list->keys[i];
+        expect("add a key", add(arena, ROOM, state, &put, &place), 0);
+    }
+    return finish_few(arena, state, body, &length);
+}
+
+/* So many pairs were found for an attempt: the one that the list says, or none. */
+static void expect_pairs(const struct keys *list, unsigned attempt, const struct kiban_pair *pairs, size_t found)
+{
+    const uint8_t *equal = list->equal[attempt];
+    expect("pairs", found, equal[1] != 0);
+    if (found != 0) {
+        expect("the first key's place", pairs[0].first, equal[0] * kiban_record_bytes(16, 1));
+        expect("the second key's place", pairs[0].second, equal[1] * kiban_record_bytes(16, 1));
+    }
+}
+
+/* Prints a key of the arena, in hex. */
+static void print_key(const uint8_t *arena, uint64_t place)
+{
+    size_t i, length;
+    const uint8_t *key = kiban_key_at(arena, place, &length);
+    for (i = 0; i < length; i++)
+        printf("%02x", key[i]);
+}
+
+/* Prints pairs of keys, a line each. */
+static void print_pairs(const uint8_t *arena, const struct kiban_pair *pairs, size_t count)
+{
+    size_t i;
+    for (i = 0; i < count; i++) {
+        printf("refused 10, equal hashes: ");
+        print_key(arena, pairs[i].first);
+        printf(" ");
+        print_key(arena, pairs[i].second);
+        printf("\n");
+    }
+}
+
+/* The body's seed is that of an attempt. */
+static void expect_seed(const uint8_t *body, unsigned attempt)
+{
+    expect("the seed's low half", kiban_u32_at(body, 8), kiban_seed(attempt) & 0xffffffff);
+    expect("the seed's high half", kiban_u32_at(body, 12), kiban_seed(attempt) >> 32);
+}
+
+/* The keys that keep a list from being placed are named. Each list's last key is the second of the fewest pairs. */
+static void equal_hashes(const struct keys *list)
+{
+    uint8_t arena[ROOM], body[ROOM];
+    const int placed = list->equal[list->fewest][1] == 0;
+    struct kiban_pair pairs[FEW];
+    unsigned attempt;
+    size_t found;
+    expect("finish keys", finish_keys(list, list->count, arena, body), placed ? 0 : KIBAN_REFUSED_ATTEMPTS);
+    for (attempt = 0; attempt < KIBAN_ATTEMPTS; attempt++) {
+        found = kiban_equal_hashes(arena, list->count, attempt, pairs);
+        expect_pairs(list, attempt, pairs, found);
+    }
+    found = kiban_fewest_equal_hashes(arena, list->count, pairs, &attempt);
+    expect("the attempt with the fewest", attempt, list->fewest);
+    expect_pairs(list, attempt, pairs, found);
+    print_pairs(arena, pairs, found);
+    if (!placed)
+        expect("finish without the last key", finish_keys(list, list->count - 1, arena, body), 0);
+    expect_seed(body, list->fewest);
+}
+
+/* Three keys with one hash under every seed: two pairs, and each key but the first is second in one. */
+static void three_equal(void)
+{
+    static const struct keys three = {
+        {"AAAAAAAAAAAAAAAAAAAAAAAA", "AAAAAAAAAAAAQAAAAAAAAAA\xc1", "AAAAQAAAAAAAAAA\xc1" "AAAAAAAA"}, 3, {{0, 0}}, 0};
+    const size_t entry = kiban_record_bytes(24, 1);
+    struct kiban_pair pairs[FEW];
+    uint8_t arena[ROOM], body[ROOM];
+    unsigned attempt;
+    expect("finish three", finish_keys(&three, 3, arena, body), KIBAN_REFUSED_ATTEMPTS);
+    for (attempt = 0; attempt < KIBAN_ATTEMPTS; attempt++) {
+        expect("pairs of three", kiban_equal_hashes(arena, 3, attempt, pairs), 2);
+        expect("the first pair", pairs[0].first == 0 && pairs[0].second == entry, 1);
+        expect("the second pair", pairs[1].first == entry && pairs[1].second == 2 * entry, 1);
+    }
+}
+
 int main(void)
 {
     uint8_t arena[ARENA], body[BODY], data[DATA];
@@ -221,7 +425,7 @@ int main(void)
         data[i] = (uint8_t)i;
     numbers();
     build(arena, state);
-    finish(arena, body);
+    finish(arena, state, body);
     look_up(body, data, "A", 0, 0, &records[0]);
     look_up(body, data, "A", 1, 8, &records[1]);
     look_up(body, data, "A", 1, 3, NULL);
@@ -233,5 +437,10 @@ int main(void)
     all_empty();
     some_empty();
     empty_key();
+    figures();
+    hashed_keys(arena);
+    for (i = 0; i < sizeof key_lists / sizeof *key_lists; i++)
+        equal_hashes(&key_lists[i]);
+    three_equal();
     return differing;
 }

@@ -35,7 +35,7 @@ enum kiban_refusal {
     KIBAN_REFUSED_PLACE = 7,         /* place is not used - 8, or nothing added */
     KIBAN_REFUSED_ARENA = 8,         /* arena breaks a key or version rule (23 to 25, 27 to 29 without the data test) */
     KIBAN_REFUSED_WORKSPACE = 9,     /* workspace too short */
-    KIBAN_REFUSED_ATTEMPTS = 10,     /* all eight attempts failed */
+    KIBAN_REFUSED_ATTEMPTS = 10,     /* all eight attempts failed; kiban_equal_hashes of kiban_keys.h names the keys */
     KIBAN_REFUSED_SELF_CHECK = 11,   /* self-check (slots unfilled or mismatched); proved never to be given */
     KIBAN_REFUSED_HASHES = 12,       /* more than 65,536 hashes */
     KIBAN_REFUSED_DAMAGE = 14,       /* lookup meets damage */
@@ -58,7 +58,7 @@ enum kiban_refusal {
 
 /* A record's kind. */
 enum kiban_kind { KIBAN_PUT = 1, KIBAN_TOMBSTONE = 2 };
-/* What kiban_get returns beside 14 (and 6). */
+/* What kiban_get returns beside 14 (and 6). What is found may be a tombstone: its kind tells. */
 enum kiban_got { KIBAN_FOUND = 0, KIBAN_NOTHING = 1 };
 /* What kiban_filter_ask returns beside 15. */
 enum kiban_asked { KIBAN_ABSENT = 0, KIBAN_MAYBE = 1 };
@@ -69,7 +69,7 @@ enum kiban_filter_form { KIBAN_POSITIVE = 0, KIBAN_FUSE = 1 };
 
 /* The words of a builder's state: used, keys, head. All three zero: the empty builder. */
 #define KIBAN_STATE_WORDS 3
-/* The words of kiban_get's answer: kind, sequence, offset, length. */
+/* The words of kiban_get's answer: kind, sequence, offset, length. Only a KIBAN_PUT has a value. */
 #define KIBAN_RECORD_WORDS 4
 /* The words of kiban_filter_read's answer: form, keys, seed, segment, count, cells. */
 #define KIBAN_FILTER_WORDS 6
@@ -150,7 +150,7 @@ uint64_t kiban_set_offset(uint8_t *buffer, size_t buffer_length, const uint64_t 
  * Writes the body of an arena (the used bytes of a buffer, and no more): an index file without its last five bytes.
  * For n keys, which is state[1]: out kiban_body_bytes(n, arena_length), wide kiban_finish_wide(n), narrow
  * kiban_finish_narrow(n). answer: 1 word, the body's length. Returns 0 or, first of these: 6 for the answer, 8, 5, 9, 6,
- * 10, 11.
+ * 10, 11. At 10 kiban_keys.h names the keys that stand in the way.
  */
 uint64_t kiban_finish(const uint8_t *arena, size_t arena_length, uint8_t *out, size_t out_length, uint64_t *wide,
                       size_t wide_length, uint32_t *narrow, size_t narrow_length, uint64_t *answer,
@@ -163,9 +163,12 @@ uint64_t kiban_validate(const uint8_t *body, size_t body_length, uint64_t data_l
 
 /*
  * The key's record of greatest sequence within the limit. limited: 0 for no limit, and limit is then not looked at.
- * answer: 4 words, written where a record is found: kind, sequence, offset, length. Its value is the part of the data at
- * that offset, of that length, and lies inside the data. Returns 0 found, 1 nothing, 6 for the answer, or 14, which is
- * proved never to come on a body that was validated for the data's length.
+ * answer: 4 words, written where a record is found: kind, sequence, offset, length. Returns 0 found, 1 nothing, 6 for the
+ * answer, or 14, which is proved never to come on a body that was validated for the data's length.
+ *
+ * Test the kind before anything is read. Of a KIBAN_PUT the value is the part of the data at that offset, of that length,
+ * and lies inside the data. A KIBAN_TOMBSTONE was found too: the key was withdrawn and has no value, though its offset
+ * can be where an older, withdrawn value starts.
  */
 uint64_t kiban_get(const uint8_t *body, size_t body_length, const uint8_t *data, size_t data_length, const uint8_t *key,
                    size_t key_length, uint8_t limited, uint64_t limit, uint64_t *answer, size_t answer_length);

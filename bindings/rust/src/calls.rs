@@ -40,7 +40,7 @@ pub fn validate(body: &[u8], data_length: u64) -> Result<(), Refusal> {
     taken(sys::validate(body, data_length), ())
 }
 
-/// The key's record within the limit: kind, sequence, offset, length.
+/// The key's record within the limit: kind, sequence, offset, length. Of kind 2, a tombstone, there is no value.
 pub fn get(body: &[u8], data: &[u8], key: &[u8], limit: Option<u64>) -> Result<Option<[u64; 4]>, Refusal> {
     let mut answer = [0; 4];
     match sys::get(body, data, key, limit, &mut answer) {

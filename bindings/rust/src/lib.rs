@@ -5,22 +5,29 @@
 //! proved code decides.
 //!
 //! ```
-//! use wobarelind::{Kind, LegacyIndex, PointBuilder, Refusal};
+//! use wobarelind::{Found, Kind, LegacyIndex, PointBuilder, Refusal};
 //!
 //! let data = b"812 litres";
 //! let mut builder = PointBuilder::new();
 //! let patch = builder.add(Kind::Put, b"tram 17", data.len() as u64, 9, true)?;
 //! builder.set_value_offset(patch, 0)?;
+//! builder.add(Kind::Tombstone, b"tram 23", 0, 7, true)?;
 //! let body = builder.finish_legacy()?;
 //!
 //! let index = LegacyIndex::decode(&body, data)?;
-//! let found = index.get(b"tram 17", None).expect("it was added");
-//! assert_eq!((found.seq, found.value), (9, &data[..]));
+//! let figure = |tram| match index.get(tram, None) {
+//!     Some(Found { kind: Kind::Put, value, .. }) => Some(value),
+//!     Some(Found { kind: Kind::Tombstone, .. }) => None, // withdrawn: it has no figure
+//!     None => None,                                      // no record within the limit
+//! };
+//! assert_eq!(figure(b"tram 17"), Some(&data[..]));
+//! assert_eq!(figure(b"tram 23"), None);
 //! # Ok::<(), Refusal>(())
 //! ```
 #![deny(unsafe_code)]
 
 mod calls;
+mod equal;
 mod filter;
 mod listing;
 mod point;
@@ -28,6 +35,7 @@ mod refusal;
 #[allow(unsafe_code)]
 pub mod sys;
 
+pub use equal::{EqualHashes, Pair, equal_hashes};
 pub use filter::{Sizes, SstFilter};
 pub use listing::listing;
 pub use point::{Found, Kind, LegacyIndex, PointBuilder, finish, get, validate};

@@ -1,5 +1,5 @@
 //! The point index: built from records, validated, read.
-use crate::{Refusal, calls};
+use crate::{EqualHashes, Refusal, calls, equal_hashes};
 
 /// A record's kind.
 #[derive(Clone, Copy, Debug, PartialEq, Eq)]
@@ -73,9 +73,28 @@ impl PointBuilder {
         calls::set_offset(&mut self.buffer, &self.state, patch as u64, value_offset)
     }
 
-    /// The body of the records added: an index without its five trailer bytes.
+    /// The body of the records added: an index without its five trailer bytes. At 10, [`Self::equal_hashes`] names the keys that
+    /// stand in the way.
     pub fn finish_legacy(&self) -> Result<Vec<u8>, Refusal> {
         finish_keys(self.arena(), self.keys())
+    }
+
+    /// The keys added that have equal hashes, under each seed that finish tries.
+    pub fn equal_hashes(&self) -> EqualHashes<'_> {
+        equal_hashes(&self.key_list())
+    }
+
+    /// The keys added, in their order.
+    fn key_list(&self) -> Vec<&[u8]> {
+        let mut keys = Vec::with_capacity(self.keys());
+        let mut rest = self.arena();
+        while !rest.is_empty() {
+            let field = |at: usize| u32::from_le_bytes([rest[at], rest[at + 1], rest[at + 2], rest[at + 3]]) as usize;
+            let (length, versions) = (field(0), field(4));
+            keys.push(&rest[8..8 + length]);
+            rest = &rest[8 + length + VERSION * versions..];
+        }
+        keys
     }
 
     fn used(&self) -> usize {
@@ -89,7 +108,7 @@ impl PointBuilder {
     }
 }
 
-/// The body of an arena from elsewhere. A [`PointBuilder`] finishes its own.
+/// The body of an arena from elsewhere. A [`PointBuilder`] finishes its own. At 10, [`equal_hashes`] names the keys of a list.
 pub fn finish(arena: &[u8]) -> Result<Vec<u8>, Refusal> {
     finish_keys(arena, (arena.len() / LEAST_ENTRY).min(MOST_KEYS))
 }
@@ -108,16 +127,19 @@ pub fn validate(body: &[u8], data_length: u64) -> Result<(), Refusal> {
     calls::validate(body, data_length)
 }
 
-/// A key's record: its value is that part of the data.
+/// A key's record, which may be a tombstone: then the key was withdrawn and has no value. Match on the kind before the value is read.
 #[derive(Clone, Copy, Debug, PartialEq, Eq)]
 pub struct Found<'d> {
     pub kind: Kind,
     pub seq: u64,
+    /// Where a put's value starts in the data; of a tombstone it can be where an older, withdrawn value starts.
     pub offset: u64,
+    /// A put's value, that part of the data.
     pub value: &'d [u8],
 }
 
-/// The key's record of greatest sequence within the limit, from a body that need not be validated: damage that it meets is 14.
+/// The key's record of greatest sequence within the limit, from a body that need not be validated: damage that it meets is 14. What is
+/// found may be a tombstone: [`Found`].
 pub fn get<'d>(body: &[u8], data: &'d [u8], key: &[u8], limit: Option<u64>) -> Result<Option<Found<'d>>, Refusal> {
     let Some([kind, seq, offset, length]) = calls::get(body, data, key, limit)? else {
         return Ok(None);
@@ -129,7 +151,7 @@ pub fn get<'d>(body: &[u8], data: &'d [u8], key: &[u8], limit: Option<u64>) -> R
 
 /// A validated body beside its data.
 ///
-/// A found value is a part of the data. It may outlive the index and the body, and cannot outlive the data:
+/// What is found borrows from the data. It may outlive the index and the body, and cannot outlive the data:
 ///
 /// ```compile_fail,E0597
 /// # let mut builder = wobarelind::PointBuilder::new();
@@ -140,7 +162,7 @@ pub fn get<'d>(body: &[u8], data: &'d [u8], key: &[u8], limit: Option<u64>) -> R
 ///     let data = vec![0; 8];
 ///     found = wobarelind::LegacyIndex::decode(&body, &data).unwrap().get(b"A", None).unwrap();
 /// }
-/// assert_eq!(found.value, [0; 8]);
+/// assert_eq!(found.seq, 9);
 /// ```
 #[derive(Clone, Copy, Debug)]
 pub struct LegacyIndex<'b, 'd> {
@@ -155,7 +177,8 @@ impl<'b, 'd> LegacyIndex<'b, 'd> {
         Ok(Self { body, data })
     }
 
-    /// The key's record of greatest sequence within the limit, or nothing where the list has none.
+    /// The key's record of greatest sequence within the limit, or nothing where the list has none. What is found may be a tombstone:
+    /// [`Found`].
     pub fn get(&self, key: &[u8], limit: Option<u64>) -> Option<Found<'d>> {
         get(self.body, self.data, key, limit).expect("proved: a lookup never refuses a validated body")
     }

@@ -1,7 +1,7 @@
 //! The numbers that calls refuse with.
 use std::fmt;
 
-/// The number of a refused call; shown with its cause.
+/// The number of a refused call; shown with its cause, and 10 with the call that names the keys.
 #[derive(Clone, Copy, Debug, PartialEq, Eq)]
 pub struct Refusal(pub u64);
 
@@ -55,7 +55,8 @@ impl Refusal {
 
 impl fmt::Display for Refusal {
     fn fmt(&self, f: &mut fmt::Formatter<'_>) -> fmt::Result {
-        write!(f, "refused {}: {}", self.0, self.cause())
+        let hint = if self.0 == 10 { "; PointBuilder::equal_hashes names the keys" } else { "" };
+        write!(f, "refused {}: {}{hint}", self.0, self.cause())
     }
 }
 

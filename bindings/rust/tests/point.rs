@@ -108,6 +108,14 @@ fn a_tombstone_is_found_with_an_empty_value() {
 }
 
 #[test]
+fn a_withdrawn_key_has_its_value_before_the_withdrawal_only() {
+    let (body, data) = (example::body(), example::data());
+    let index = LegacyIndex::decode(&body, &data).unwrap();
+    let value = |limit| index.get(b"B", limit).filter(|found| found.kind == Kind::Put).map(|found| found.value);
+    assert_eq!([value(None), value(Some(7)), value(Some(6)), value(Some(2))], [None, None, Some(&data[60..68]), None]);
+}
+
+#[test]
 fn a_value_outlives_the_index_and_the_body() {
     let data = example::data();
     let value = {

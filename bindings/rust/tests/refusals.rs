@@ -25,7 +25,11 @@ fn hex(text: &str) -> Vec<u8> {
 
 #[test]
 fn shown_with_number_and_cause() {
-    assert_eq!(Refusal(10).to_string(), "refused 10: all eight attempts failed");
+    assert_eq!(Refusal(12).to_string(), "refused 12: more than 65,536 hashes");
+    assert_eq!(
+        Refusal(10).to_string(),
+        "refused 10: all eight attempts failed; PointBuilder::equal_hashes names the keys"
+    );
     assert!(Refusal(4).to_string().contains("sequence not below the last one of that key"));
     assert_eq!(Refusal(13).cause(), "no number of a refusal");
 }
