@@ -17,9 +17,9 @@ QUIET = mkdir -p target && quiet() { "$$@" > target/quiet.log 2>&1 || { cat targ
 
 .PHONY: test run wrong bindings compare compare-tool compare-files compare-hashes bench speed stack robust vectors
 test:
-	@awk '{ sub(/#.*/, ""); i = index($$0, ":") } i && $$1 != "mixing:" && (substr($$0, i + 1) " ") ~ /[ \t]mixrule[ \t]/ { print "crates.txt: only mixing may list mixrule: " $$0; bad = 1 } END { exit bad }' crates.txt
+	@sh scripts/check-mixrule && sh scripts/test-check-mixrule
 	@sh scripts/test-listing-input
-	@rt fmt --check && rt ci
+	@rt fmt --check && sh scripts/gate
 
 run:
 	@$(QUIET) rt check listing

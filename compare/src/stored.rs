@@ -7,7 +7,7 @@ use std::path::{Path, PathBuf};
 /// The file: `oracle vectors 1 FILE 1`, and the key hash of its bytes with seed 0.
 const SEED: u64 = 1;
 const SCALE: u64 = 1;
-const DIGEST: u64 = 0xc730_1944_56cc_caae;
+const DIGEST: u64 = 0x4994_23f0_f58a_902e;
 
 /// A file's cases, each with its op first.
 fn cases(file: &[u8]) -> Vec<&[u8]> {

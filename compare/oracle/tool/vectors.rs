@@ -6,7 +6,7 @@ use crate::{
     found::*,
     hunt,
     lines::{Rec, get_both, rust_builder, rust_finish_arena},
-    paper, rf, rp,
+    paper, rf, rp, tables,
 };
 use std::collections::BTreeMap;
 
@@ -351,6 +351,7 @@ fn cases(seed: u64, scale: u64) -> Out {
     listing_shapes(o);
     other_bodies(o);
     finishes(o, r, scale);
+    plain_keys(o);
     let filters = filter_builds(o, r, scale);
     filter_asks(o, r, scale, &filters);
     filter_shapes(o);
@@ -407,13 +408,24 @@ fn leaves(o: &mut Out, r: &mut Rng, scale: u64) {
         let p = rf::positions(h, s as usize, c as usize);
         o.put(4, 0, p.iter().fold(P::default().u64(h).u32(s).u32(c), |a, &x| a.u32(x as u64)));
     }
-    for n in (1..130)
+    let some: Vec<u64> = (1..130)
         .chain([355, 356, 1035, 1036, 3014, 3015, 8771, 8772, 25526, 25527, 65352, 65353, 65536])
         .chain((0..40 * scale).map(|_| 1 + r.below(65_536)).collect::<Vec<_>>())
-    {
+        .collect();
+    let edges = row_edges().into_iter().filter(|n| !some.contains(n));
+    for n in some.iter().copied().chain(edges) {
         let (s, g, c) = paper::sizing(n);
         o.put(5, 0, P::default().u32(n).u32(s).u32(g).u32(c));
     }
+}
+/// The first and the last n of every row of the sizing table, found by running the Rust at each n.
+fn row_edges() -> Vec<u64> {
+    let firsts: Vec<u64> = tables::rows(65_536).iter().map(|row| row.0).collect();
+    let lasts = firsts[1..].iter().map(|n| n - 1).chain([65_536]);
+    let mut edges: Vec<u64> = firsts.iter().copied().chain(lasts).collect();
+    edges.sort();
+    edges.dedup();
+    edges
 }
 /// Ops 0f to 13: each refusal of add and set offset, and the edges of the room.
 fn builder(o: &mut Out) {
@@ -815,17 +827,14 @@ fn other_bodies(o: &mut Out) {
         get(o, &b, &b, 2, b"key", None);
     }
 }
+/// A put for each key.
+fn puts(keys: &[Vec<u8>]) -> Vec<Rec> {
+    let put = |(i, k): (usize, &Vec<u8>)| Rec { new: true, kind: 1, key: k.clone(), seq: i as u64, len: 0, offset: 0 };
+    keys.iter().enumerate().map(put).collect()
+}
 /// Finish: every attempt, both causes, and 10.
 fn finishes(o: &mut Out, r: &mut Rng, scale: u64) {
-    let simple = |keys: &[Vec<u8>]| -> Vec<u8> {
-        arena(
-            &keys
-                .iter()
-                .enumerate()
-                .map(|(i, k)| Rec { new: true, kind: 1, key: k.clone(), seq: i as u64, len: 0, offset: 0 })
-                .collect::<Vec<_>>(),
-        )
-    };
+    let simple = |keys: &[Vec<u8>]| arena(&puts(keys));
     for k in 0..=8 {
         let v = hunt::keys_for_attempt(k, r);
         finish_fit(o, &simple(&v), v.len());
@@ -879,6 +888,28 @@ fn finishes(o: &mut Out, r: &mut Rng, scale: u64) {
             Err(e) => (e, 0, 0, 0),
         };
         o.put(FINISH_GEN, num, P::default().u64(s).u32(n).u8(num as u8).u64(len).u64(digest).u64(sd));
+    }
+}
+/// Small lists of plain keys that add takes and no seed places (10), and one that the eighth seed alone places.
+const PLAIN_KEYS: [(u32, &[&[u8]]); 6] = [
+    (10, &[b"T0410-2024110300", b"T0413-2024110308", b"T0415-2024110308", b"T0416-2024110300"]),
+    (0, &[b"T0151-2019110300", b"T0152-2019110308", b"T0420-2019110300", b"T0423-2019110308"]),
+    (10, &[b"TRAMA-2024110301", b"TRAMI-202411030q", b"TRAMY-202411030q"]),
+    (10, &[b"L150A-20241103-a", b"L150U-20241103-A"]),
+    (10, &[b"AAAAAAAABBBBBBBB", b"AAAAQAAABBBBBBB\xc2"]),
+    (10, &[b"AAAAAAAAAAAAAAAAAAAAAAAA", b"AAAAQAAAAAAAQAA\xc1AAAAAAA\xc1"]),
+];
+fn plain_keys(o: &mut Out) {
+    for (number, keys) in PLAIN_KEYS {
+        let recs = puts(&keys.iter().map(|k| k.to_vec()).collect::<Vec<_>>());
+        let a = arena(&recs);
+        let mut b = Builder::new(o, a.len(), 0xC3);
+        b.list(&recs);
+        b.look();
+        match finish_fit(o, &a, keys.len()) {
+            Some(body) => assert!(number == 0 && body[8..16] == hunt::seed(7).to_le_bytes()),
+            None => assert!(number == 10 && rust_finish_arena(&a) == Err(10)),
+        }
     }
 }
 /// Filter builds; the filters that were built, with their hashes.

@@ -28,6 +28,12 @@ slice-aggregate-write-all c =
 write-all-requires : tie.Need-write-all-requires
 write-all-requires c κs = search needs
 
+slice-aggregate-write-all-2 : tie.Need-slice-aggregate-write-all-2
+slice-aggregate-write-all-2 c = search needs
+
+write-all-requires-2 : tie.Need-write-all-requires-2
+write-all-requires-2 c κs = search needs
+
 enum-told : tie.Need-enum-told
 enum-told c = search needs
 
@@ -43,6 +49,12 @@ same-length-2 c = search needs
 returns-2 : tie.Need-returns-2
 returns-2 c = search needs
 
+same-length-3 : tie.Need-same-length-3
+same-length-3 c = search needs
+
+returns-3 : tie.Need-returns-3
+returns-3 c = search needs
+
 pub print-spec : {M : Type 1} → statement M
 print-spec =
     tie.close
@@ -52,8 +64,12 @@ print-spec =
     slice-reshare-prefix-write-all
     slice-aggregate-write-all
     write-all-requires
+    slice-aggregate-write-all-2
+    write-all-requires-2
     enum-told
     same-length
     returns
     same-length-2
-    returns-2)
+    returns-2
+    same-length-3
+    returns-3)
