@@ -56,6 +56,7 @@ pub const ALL: &[Entry] = &[
     entry::<sort::Rising>(),
     entry::<sort::Falling>(),
     entry::<sort::Equal>(),
+    entry::<sort::Worst>(),
     entry::<finish::Finish>(),
     entry::<finish::Package>(),
     entry::<validate::Validate>(),

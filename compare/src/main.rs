@@ -9,6 +9,7 @@ mod stored;
 mod table;
 mod tables;
 mod theirs;
+mod worst;
 
 use calls::Plan;
 use std::process::ExitCode;

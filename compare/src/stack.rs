@@ -1,6 +1,6 @@
 //! The stack that each kiban_* call takes: the call runs on a painted stack, and the deepest word that lost its paint says how far it went.
 //! Counted are its return address, the arguments that pass on the stack, and all that it and what it calls keep there.
-use crate::ours;
+use crate::{ours, worst};
 use oracle::lines::{Rec, rust_builder};
 use oracle::{Rng, paper};
 use std::arch::asm;
@@ -90,25 +90,8 @@ fn orders(n: usize) -> Vec<(&'static str, Vec<u64>)> {
         ("interleaved", (0..m).map(|i| if i % 2 == 0 { i } else { m - i }).collect()),
         ("powers of two", (0..m).map(|i| 1 << (i * 7 % 64)).collect()),
         ("rising, the last one least", (1..m).chain([0]).collect()),
-        ("against the medians", against_medians(n)),
+        ("worst", worst::order(n)),
     ]
-}
-
-/// The least hashes stand where the next division samples: most divisions by a pivot then part off few.
-fn against_medians(n: usize) -> Vec<u64> {
-    let mut hashes = vec![0; n];
-    let mut left: Vec<usize> = (0..n).collect();
-    let mut next = 0;
-    while !left.is_empty() {
-        let e = left.len() / 9;
-        let mut sampled: Vec<usize> = if e < 16 { (0..left.len()).collect() } else { (0..9).map(|k| k * e).collect() };
-        sampled.dedup();
-        for at in sampled.into_iter().rev() {
-            next += 1;
-            hashes[left.swap_remove(at)] = next;
-        }
-    }
-    hashes
 }
 
 fn sorting(d: &mut Depths) {

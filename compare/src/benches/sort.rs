@@ -1,6 +1,6 @@
-//! Sorting hashes, against `sort_unstable`: random, rising, falling, equal.
+//! Sorting hashes, against `sort_unstable`: random, rising, falling, equal, the worst order.
 use super::Bench;
-use crate::ours;
+use crate::{ours, worst};
 use oracle::Rng;
 
 pub struct Input {
@@ -24,6 +24,7 @@ pub struct Random;
 pub struct Rising;
 pub struct Falling;
 pub struct Equal;
+pub struct Worst;
 impl Order for Random {
     const NAME: &'static str = "sort, random";
     const FRESH: bool = true;
@@ -50,6 +51,12 @@ impl Order for Equal {
     const NAME: &'static str = "sort, equal";
     fn of(random: Vec<u64>) -> Vec<u64> {
         vec![random[0]; random.len()]
+    }
+}
+impl Order for Worst {
+    const NAME: &'static str = "sort, worst";
+    fn of(random: Vec<u64>) -> Vec<u64> {
+        worst::order(random.len())
     }
 }
 

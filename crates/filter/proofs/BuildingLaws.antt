@@ -24,6 +24,7 @@ use Rattle.fuse.specs.Layout.{positiveBytes, headerOf}
 use Rattle.fuse.proofs.HeaderLaws.{header-length}
 use Rattle.sizing.specs.declared.Plan.{Plan}
 use Rattle.sizing.specs.declared.Plan.the-variants as plan
+use Rattle.sizing.specs.Table.{mostHashes}
 use Rattle.sizing.specs.Sizing.{sizesOf, planOf}
 use Rattle.sizing.proofs.SizedLaws.{plan-zero, plan-least, plan-sizes, plan-usable, plan-some}
 use Rattle.sort.specs.Sort.{sorted}
@@ -57,16 +58,16 @@ cells-few n l = go (planOf n) refl
 -- ---- the checks
 
 module _ (n wide narrow out : ℕ) where
-  pub refuse-many : 65536 < n → 12 ≡ buildRefusal n wide narrow out
+  pub refuse-many : mostHashes < n → 12 ≡ buildRefusal n wide narrow out
   unfolding buildRefusal
-  refuse-many l = rw (lt-ltb 65536 n l)
+  refuse-many l = rw (lt-ltb mostHashes n l)
 
-  module _ (c : ℕ) (e : c ≡ cellsFor n) (few : n ≤ 65536) where
+  module _ (c : ℕ) (e : c ≡ cellsFor n) (few : n ≤ mostHashes) where
     pub refuse-wide : wide < c + n → 9 ≡ buildRefusal n wide narrow out
     unfolding buildRefusal
     refuse-wide l =
         let k : wide < cellsFor n + n = omega arith in
-        rw (le-ltb 65536 n few, lt-ltb wide (cellsFor n + n) k)
+        rw (le-ltb mostHashes n few, lt-ltb wide (cellsFor n + n) k)
 
     module _ (w : c + n ≤ wide) where
       wide-passes : ltb wide (cellsFor n + n) ≡ false
@@ -76,7 +77,7 @@ module _ (n wide narrow out : ℕ) where
       unfolding buildRefusal
       refuse-narrow l =
           let k : narrow < 2 * cellsFor n + n = omega arith in
-          rw (le-ltb 65536 n few, wide-passes, lt-ltb narrow (2 * cellsFor n + n) k)
+          rw (le-ltb mostHashes n few, wide-passes, lt-ltb narrow (2 * cellsFor n + n) k)
 
       module _ (m : 2 * c + n ≤ narrow) where
         narrow-passes : ltb narrow (2 * cellsFor n + n) ≡ false
@@ -86,13 +87,13 @@ module _ (n wide narrow out : ℕ) where
         unfolding buildRefusal
         refuse-out l =
             let k : out < 48 + cellsFor n = omega arith in
-            rw (le-ltb 65536 n few, wide-passes, narrow-passes, lt-ltb out (48 + cellsFor n) k)
+            rw (le-ltb mostHashes n few, wide-passes, narrow-passes, lt-ltb out (48 + cellsFor n) k)
 
         pub refuse-none : 48 + c ≤ out → 0 ≡ buildRefusal n wide narrow out
         unfolding buildRefusal
         refuse-none l =
             let k : 48 + cellsFor n ≤ out = omega arith in
-            rw (le-ltb 65536 n few, wide-passes, narrow-passes, le-ltb out (48 + cellsFor n) k)
+            rw (le-ltb mostHashes n few, wide-passes, narrow-passes, le-ltb out (48 + cellsFor n) k)
 
   pub build-numbered : Numbered (buildCauses n wide narrow out)
   build-numbered =

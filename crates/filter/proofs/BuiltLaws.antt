@@ -4,7 +4,7 @@ use mathlib.Core.Path.{_≡_, refl, sym, ap, _∙_, subst}
 use mathlib.Core.Bool.{true}
 use mathlib.Core.List.{List, _++_}
 use mathlib.Core.Option.{Option, none, some}
-use Prim.Native.Nat.{ℕ, zero, suc, _+_, _^_, _≤_, _<_}
+use Prim.Native.Nat.{ℕ, zero, suc, _+_, _*_, _^_, _≤_, _<_}
 use native.Mathlib.Omega.{arith}
 use lib.ListN.{length, take, drop, length-append}
 use lib.Seq.{take-at, drop-at}
@@ -18,8 +18,9 @@ use Rattle.fuse.specs.Asking.{containsOf}
 use Rattle.fuse.specs.Layout.{positiveBytes, headerOf, Accepted}
 use Rattle.fuse.proofs.FitLaws.{accepted-fitting}
 use Rattle.fuse.proofs.HeaderLaws.{header-length, positive-length}
+use Rattle.sizing.specs.Table.{mostHashes}
 use Rattle.sizing.specs.Sizing.{sizesOf}
-use Rattle.sizing.proofs.SizedLaws.{sizes-accepted}
+use Rattle.sizing.proofs.SizedLaws.{sizes-enough, sizes-accepted}
 use Rattle.sort.specs.Sort.{sorted}
 use Rattle.sort.proofs.TwinLaws.{twins-sorted, repeats-doubles}
 use Rattle.sort.proofs.SortLaws.{count-sorted}
@@ -68,29 +69,35 @@ why-positive hashes w = back hashes (builtOf hashes) (built-way hashes) w
 
 -- ---- a filter, and whose it is
 
-whose : (hashes : List ℕ) (b : Built) → Way (length hashes) (sorted hashes) b → (s : Sizes) → b ≡ Fuse s → FilterOf hashes s
-whose hashes b (empty z) s e = let z : _≡_ {A = ℕ} 0 1 = cc in absurd (omega arith)
-whose hashes b (double t) s e = let z : _≡_ {A = ℕ} 0 1 = cc in absurd (omega arith)
-whose hashes b (tried l t) s e = go (attemptOf (sizesOf (length hashes)) (sorted hashes)) refl e
+seeded-enough : (n seed : ℕ) (s : Sizes) → s ≡ seeded (sizesOf n) seed → 1 ≤ n → n ≤ mostHashes → 43 * n ≤ 40 * cellsIn (s .segment) (s .count)
+unfolding sizesOf
+seeded-enough n seed s e l few = subst (λ (x : Sizes). 43 * n ≤ 40 * cellsIn (x .segment) (x .count)) (sym e) (sizes-enough n l few)
+
+whose : (hashes : List ℕ) → length hashes ≤ mostHashes → (b : Built) → Way (length hashes) (sorted hashes) b → (s : Sizes) → b ≡ Fuse s → FilterOf hashes s
+whose hashes few b (empty z) s e = let z : _≡_ {A = ℕ} 0 1 = cc in absurd (omega arith)
+whose hashes few b (double t) s e = let z : _≡_ {A = ℕ} 0 1 = cc in absurd (omega arith)
+whose hashes few b (tried l t) s e = go (attemptOf (sizesOf (length hashes)) (sorted hashes)) refl e
   where
     go : (o : Option (ℕ × ℕ)) → attemptOf (sizesOf (length hashes)) (sorted hashes) ≡ o → byAttempt (sizesOf (length hashes)) o ≡ Fuse s → FilterOf hashes s
     go none q p = let z : _≡_ {A = ℕ} 0 1 = cc in absurd (omega arith)
     go (some (i, a)) q p =
         let F = attempt-some (sizesOf (length hashes)) (sorted hashes) i a q in
         let r : seeded (sizesOf (length hashes)) a ≡ s = cc in
+        let k : s ≡ seeded (sizesOf (length hashes)) (mixOf (i + 1)) = sym (ap (seeded (sizesOf (length hashes))) (F .seed-is) ∙ r) in
         record {
           attempt = i + 1;
           some-hash = l;
           numbered = (omega arith, omega (arith, F .below));
-          sizes = sym (ap (seeded (sizesOf (length hashes))) (F .seed-is) ∙ r);
+          sizes = k;
+          enough = seeded-enough (length hashes) (mixOf (i + 1)) s k l few;
           peels = F .peels;
           first = F .before;
         }
 
-pub built-filter : (hashes : List ℕ) (s : Sizes) → builtOf hashes ≡ Fuse s → FilterOf hashes s
-built-filter hashes s e = whose hashes (builtOf hashes) (built-way hashes) s e
+pub built-filter : (hashes : List ℕ) → length hashes ≤ mostHashes → (s : Sizes) → builtOf hashes ≡ Fuse s → FilterOf hashes s
+built-filter hashes few s e = whose hashes few (builtOf hashes) (built-way hashes) s e
 
-module _ (hashes : List ℕ) (s : Sizes) (F : FilterOf hashes s) (few : length hashes ≤ 65536) where
+module _ (hashes : List ℕ) (s : Sizes) (F : FilterOf hashes s) (few : length hashes ≤ mostHashes) where
   -- reading accepts its sizes beside its cells
   filter-accepted : Accepted s (length (cellsOf (s .segment) (s .count) (s .seed) (sorted hashes)))
   unfolding sizesOf
@@ -121,11 +128,11 @@ written-by (Fuse s) hs out n =
     (omega (arith, length-append (headerOf s) (cellsOf (s .segment) (s .count) (s .seed) hs), header-length s, cells-length (s .segment) (s .count) (s .seed) hs))
 written-by (Refused r) hs out n = absurd (n r refl)
 
-module _ (hashes : List ℕ) (few : length hashes ≤ 65536) where
+module _ (hashes : List ℕ) (few : length hashes ≤ mostHashes) where
   reads-by : (b : Built) → builtOf hashes ≡ b → ((q : ℕ) → b ≡ Refused q → ⊥) → readOf (writtenBy b (sorted hashes)) ≡ asRead b
   reads-by Positive e n = layout-reads positiveBytes read.Positive positive
   reads-by (Fuse s) e n =
-      let F = built-filter hashes s e in
+      let F = built-filter hashes few s e in
       layout-reads (headerOf s ++ cellsOf (s .segment) (s .count) (s .seed) (sorted hashes)) (read.Fuse s)
       (fuse s (cellsOf (s .segment) (s .count) (s .seed) (sorted hashes)) (filter-accepted hashes s F few) (filter-seed hashes s F few))
   reads-by (Refused r) e n = absurd (n r refl)
@@ -136,7 +143,7 @@ module _ (hashes : List ℕ) (few : length hashes ≤ 65536) where
   asks-by Positive e n hash k =
       ap (λ (f : SstFilter). askCellsOf f (drop 48 positiveBytes) hash) (reads-by Positive e n) ∙ sym (ask-positive read.Positive (drop 48 positiveBytes) hash refl)
   asks-by (Fuse s) e n hash k =
-      let F = built-filter hashes s e in
+      let F = built-filter hashes few s e in
       let cells : List ℕ = cellsOf (s .segment) (s .count) (s .seed) (sorted hashes) in
       ap (λ (f : SstFilter). askCellsOf f (drop 48 (headerOf s ++ cells)) hash) (reads-by (Fuse s) e n)
       ∙ ap (λ (c : List ℕ). askCellsOf (read.Fuse s) c hash) (drop-at (headerOf s) cells 48 (header-length s))
@@ -186,19 +193,21 @@ module _ {hashes wide narrow out : List ℕ} {r : Built} {hashes' wide' narrow' 
   unfolding number
   cause-positive z w = sym answered ∙ ap (λ (k : ℕ). unlessRefused k (builtOf hashes)) z ∙ why-positive hashes w
 
+  -- where nothing is refused there are no more than the most hashes
+  few : ((q : ℕ) → r ≡ Refused q → ⊥) → length hashes ≤ mostHashes
+  unfolding number
+  few n = roomy (length hashes) (length wide) (length narrow) (length out) (passed number (builtOf hashes) r answered n .0) .few
+
   -- a filter is that of the hashes
   pub filter-cause : (s : Sizes) → r ≡ Fuse s → FilterOf hashes s
   filter-cause s e =
-      built-filter hashes s (passed number (builtOf hashes) (Fuse s) (answered ∙ e) (λ q z. let w : _≡_ {A = ℕ} 0 1 = cc in omega arith) .1)
+      let n : (q : ℕ) → r ≡ Refused q → ⊥ = λ q z. let w : _≡_ {A = ℕ} 0 1 = cc in omega arith in
+      built-filter hashes (few n) s (passed number (builtOf hashes) r answered n .1 ∙ e)
 
   module _ (n : (q : ℕ) → r ≡ Refused q → ⊥) where
-    few : length hashes ≤ 65536
-    unfolding number
-    few = roomy (length hashes) (length wide) (length narrow) (length out) (passed number (builtOf hashes) r answered n .0) .few
-
     -- its sizes can be used
     pub built-usable : (s : Sizes) → r ≡ Fuse s → Usable (s .segment) (s .count)
-    built-usable s e = filter-usable hashes s (filter-cause s e) few
+    built-usable s e = filter-usable hashes s (filter-cause s e) (few n)
 
     -- the bytes in front of the output
     pub written : take (lengthBy r) out' ≡ writtenBy r (sorted hashes)
@@ -207,12 +216,12 @@ module _ {hashes wide narrow out : List ℕ} {r : Built} {hashes' wide' narrow' 
 
     -- what is built is accepted by reading, with its sizes
     pub built-reads : readOf (take (lengthBy r) out') ≡ asRead r
-    built-reads = ap readOf written ∙ reads-by hashes few r (passed number (builtOf hashes) r answered n .1) n
+    built-reads = ap readOf written ∙ reads-by hashes (few n) r (passed number (builtOf hashes) r answered n .1) n
 
     -- a filter built of a set of hashes never calls one of them absent
     pub never-absent : (hash : ℕ) → 1 ≤ count hash hashes → askOf (take (lengthBy r) out') hash ≡ Maybe
     never-absent hash k =
-        ap (λ (bytes : List ℕ). askOf bytes hash) written ∙ asks-by hashes few r (passed number (builtOf hashes) r answered n .1) n hash k
+        ap (λ (bytes : List ℕ). askOf bytes hash) written ∙ asks-by hashes (few n) r (passed number (builtOf hashes) r answered n .1) n hash k
 
 -- two results that meet the contract coincide, lent bytes included
 pub build-unique : {hashes wide narrow out : List ℕ} {r q : Built} {h w m o h' w' m' o' : List ℕ}

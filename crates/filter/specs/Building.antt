@@ -17,6 +17,7 @@ use Rattle.fuse.specs.Asking.{containsOf}
 use Rattle.fuse.specs.Layout.{positiveBytes, headerOf}
 use Rattle.sizing.specs.declared.Plan.{Plan}
 use Rattle.sizing.specs.declared.Plan.the-variants as plan
+use Rattle.sizing.specs.Table.{mostHashes}
 use Rattle.sizing.specs.Sizing.{sizesOf, planOf}
 use Rattle.sort.specs.Sort.{sorted}
 use Rattle.sort.specs.Twins.{twins}
@@ -37,10 +38,10 @@ planCells (plan.Fuse s) = cellsIn (s .segment) (s .count)
 unfoldable pub cellsFor : ℕ → ℕ
 cellsFor n = planCells (planOf n)
 
--- for n hashes and c cells: more than 65,536 hashes; workspace under c + n u64 or 2c + n u32; output under 48 + c bytes
+-- for n hashes and c cells: more than the most hashes; workspace under c + n u64 or 2c + n u32; output under 48 + c bytes
 abbrev pub buildCauses : (n wide narrow out : ℕ) → List Cause
 buildCauses n wide narrow out =
-    cause (ltb 65536 n) 12 ∷ cause (ltb wide (cellsFor n + n)) 9 ∷ cause (ltb narrow (2 * cellsFor n + n)) 9 ∷ cause (ltb out (48 + cellsFor n)) 6 ∷ []
+    cause (ltb mostHashes n) 12 ∷ cause (ltb wide (cellsFor n + n)) 9 ∷ cause (ltb narrow (2 * cellsFor n + n)) 9 ∷ cause (ltb out (48 + cellsFor n)) 6 ∷ []
 
 -- the number that a call refuses with, 0 for none
 unfoldable pub buildRefusal : (n wide narrow out : ℕ) → ℕ
@@ -48,7 +49,7 @@ buildRefusal n wide narrow out = firstOf (buildCauses n wide narrow out)
 
 -- the lengths past the checks
 pub record Roomy (n wide narrow out : ℕ) : Type 0 where
-  pub few : n ≤ 65536
+  pub few : n ≤ mostHashes
   pub wide-room : cellsFor n + n ≤ wide
   pub narrow-room : 2 * cellsFor n + n ≤ narrow
   pub out-room : 48 + cellsFor n ≤ out
@@ -158,12 +159,14 @@ pub data WhyPositive (hashes : List ℕ) : Type 0 where
   equal-hashes : (v : ℕ) → 2 ≤ count v hashes → WhyPositive hashes
   no-attempt : ((i : ℕ) → 1 ≤ i → i ≤ 100 → peelsBy (sizesOf (length hashes)) (sorted hashes) i ≡ false) → WhyPositive hashes
 
--- whose filter it is: all hashes are its keys, its sizes are those for so many, and its seed is that of the first attempt that peels every hash
+-- whose filter it is: all hashes are its keys, its sizes are those for so many, with 40 × cells ≥ 43 × hashes, and its seed is that of the
+-- first attempt that peels every hash
 pub record FilterOf (hashes : List ℕ) (s : Sizes) : Type 0 where
   pub attempt : ℕ
   pub some-hash : 1 ≤ length hashes
   pub numbered : (1 ≤ attempt) × (attempt ≤ 100)
   pub sizes : s ≡ seeded (sizesOf (length hashes)) (mixOf attempt)
+  pub enough : 43 * length hashes ≤ 40 * cellsIn (s .segment) (s .count)
   pub peels : peelsBy (sizesOf (length hashes)) (sorted hashes) attempt ≡ true
   pub first : (i : ℕ) → 1 ≤ i → i < attempt → peelsBy (sizesOf (length hashes)) (sorted hashes) i ≡ false
 

@@ -25,7 +25,7 @@ fn cells_for(n: usize) -> usize
 pub fn refusal(n: usize, wide: usize, narrow: usize, out: usize) -> u8
     ensures { λ r. ⌜ r ≡ buildRefusal n wide narrow out ⌝ }
 {
-    if Built::MAX_HASHES < n {
+    if Plan::MAX_HASHES < n {
         return Built::MANY;
     }
     let c = cells_for(n);

@@ -44,8 +44,6 @@ pub enum Built {
 }
 
 impl Built {
-    // The most hashes.
-    pub const MAX_HASHES: usize = 65_536;
     // The attempts, each with a seed of its own.
     pub const ATTEMPTS: u64 = 100;
     // The refusals: too many hashes, workspace too short, output too short.

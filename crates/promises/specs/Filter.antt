@@ -1,10 +1,11 @@
 -- Demand 3 of a filter: what was built of a set of hashes is read with its sizes and keys, and never calls one of them absent. Assumes nothing.
-use Prim.Native.Nat.{ℕ, _≤_}
+use Prim.Native.Nat.{ℕ, _*_, _≤_}
 use mathlib.Core.Path.{_≡_, ap}
 use mathlib.Core.List.{List}
 use lib.ListN.{length, take}
 use Rattle.laws.specs.Count.{count}
 use Rattle.fuse.specs.declared.Sizes.{Sizes}
+use Rattle.fuse.specs.Positions.{cellsIn}
 use Rattle.sizing.specs.Sizing.{sizesOf}
 use Rattle.filter.specs.declared.Answer.the-variants.{Maybe}
 use Rattle.filter.specs.declared.Built.{Built}
@@ -18,11 +19,12 @@ use Rattle.filter.proofs.BuiltLaws.{filter-cause, built-reads, never-absent}
 abbrev pub filterBytes : Built → (out : List ℕ) → List ℕ
 filterBytes r out = take (lengthBy r) out
 
--- sizes for these hashes: as many keys, and the segment and count of the sizing rule (3 segments more than the count)
+-- sizes for these hashes: as many keys, the segment and count of the sizing rule (3 segments more than the count), 40 × cells ≥ 43 × hashes
 pub record SizedFor (hashes : List ℕ) (s : Sizes) : Type 0 where
   pub keys : s .keys ≡ length hashes
   pub segment : s .segment ≡ sizesOf (length hashes) .segment
   pub count : s .count ≡ sizesOf (length hashes) .count
+  pub enough : 43 * length hashes ≤ 40 * cellsIn (s .segment) (s .count)
 
 -- what stands in the output for the hashes: it is read as what was built, with the right sizes, and each of the hashes is maybe there
 pub record Stands (hashes : List ℕ) (r : Built) (out : List ℕ) : Type 0 where
@@ -36,6 +38,7 @@ sized-for hashes s F = record {
   keys = ap (λ (x : Sizes). x .keys) (F .sizes);
   segment = ap (λ (x : Sizes). x .segment) (F .sizes);
   count = ap (λ (x : Sizes). x .count) (F .sizes);
+  enough = F .enough;
 }
 
 -- THEOREM: whatever meets build's contract and is no refusal stands for its hashes

@@ -13,7 +13,7 @@ use Rattle.fuse.specs.declared.Sizes.{Sizes}
 use Rattle.fuse.specs.Positions.{cellsIn, Usable}
 use Rattle.fuse.specs.Layout.{Accepted}
 use Rattle.sizing.specs.declared.Plan.the-variants.{Positive, Fuse}
-use Rattle.sizing.specs.Table.{largest, firsts, segments}
+use Rattle.sizing.specs.Table.{mostHashes, firsts, segments}
 use Rattle.sizing.specs.Sizing.{rule, greatest, exponentOf, segmentOf, upTo, segmentsOf, cellsOf, sizesOf, planOf, rises, risesFrom}
 use Rattle.sizing.proofs.SearchLaws.{upTo-yes}
 use Rattle.sizing.proofs.RowLaws.{walk, row}
@@ -47,7 +47,7 @@ counts-right = refl
 rowTest : ℕ → ℕ → ℕ → ℕ → Bool
 rowTest i f g s = eqb (exponentOf f) (exponentOf (g - 1)) && leb (43 * (g - 1)) (40 * (s * 2 ^ exponentOf f))
 
-rows-right : walk rowTest (largest + 1) 0 1 (drop 1 firsts) segments ≡ true
+rows-right : walk rowTest (mostHashes + 1) 0 1 (drop 1 firsts) segments ≡ true
 unfolding walk rowTest firsts segments exponentOf greatest rule
 rows-right = refl
 
@@ -115,24 +115,24 @@ within-row n f g s a b es one room =
       room = rw (es, e) at room;
     }
 
-module _ (n : ℕ) (l : 1 ≤ n) (h : n ≤ largest) where
+module _ (n : ℕ) (l : 1 ≤ n) (h : n ≤ mostHashes) where
   -- the row that n lies in has one segment, and at its last n, 40 × cells ≥ 43 × n
   pub row-rule : Within n
   unfolding rowTest
   row-rule =
       let s : ℕ = getD segments (upTo (drop 1 firsts) n) 0 in
-      let r = row rowTest (largest + 1) 0 1 (drop 1 firsts) segments rows-right n l (omega arith) in
+      let r = row rowTest (mostHashes + 1) 0 1 (drop 1 firsts) segments rows-right n l (omega arith) in
       let f : ℕ = r .first in
       let g : ℕ = r .next in
       let p = and-eq-true-iff (eqb (exponentOf f) (exponentOf (g - 1))) (leb (43 * (g - 1)) (40 * (s * 2 ^ exponentOf f))) .0 (r .passes) in
       within-row n f g s (r .from) (r .below) (sym (row-segments n l)) (eqb-true _ _ (p .0)) (leb-true _ _ (p .1))
 
-  -- so 40 × cells ≥ 43 × n, and there are at least as many cells as hashes
+  -- so 40 × cells ≥ 43 × n, and the sizes for n hashes have so many cells
   pub cells-enough : 43 * n ≤ 40 * cellsOf n
   cells-enough = let r = row-rule in omega (arith, r .room, r .to)
 
-  pub cells-at-least : n ≤ cellsOf n
-  cells-at-least = omega (arith, cells-enough)
+  pub sizes-enough : 43 * n ≤ 40 * cellsIn (segmentOf n) (segmentsOf n - 3)
+  sizes-enough = omega (arith, cells-enough, cells-of n l (omega arith))
 
 -- the sizes for n hashes are accepted beside their cells, whatever the seed
 pub sizes-accepted : (n seed : ℕ) → 1 ≤ n → n < 2 ^ 32

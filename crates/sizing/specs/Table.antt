@@ -1,5 +1,5 @@
 -- The two tables: the least key count for each segment exponent; and the segment counts, made by running the Rust at each n from 1 to
--- 65,536, where a row runs to the next.
+-- the most hashes, where a row runs to the next.
 use mathlib.Core.List.{List, [], _∷_}
 use Prim.Native.Nat.{ℕ}
 
@@ -8,9 +8,9 @@ unfoldable pub leasts : List ℕ
 leasts =
     1 ∷ 5 ∷ 15 ∷ 43 ∷ 123 ∷ 356 ∷ 1036 ∷ 3015 ∷ 8772 ∷ 25527 ∷ 74281 ∷ 216158 ∷ 629017 ∷ 1830440 ∷ 5326579 ∷ 15500344 ∷ 45106001 ∷ 131258461 ∷ 381962121 ∷ []
 
--- the largest key count of the table of segment counts
-abbrev pub largest : ℕ
-largest = 65536
+-- the most hashes that a filter is built of: the last row of the segment counts ends there
+abbrev pub mostHashes : ℕ
+mostHashes = 65536
 
 -- the first key count of each row
 unfoldable pub firsts : List ℕ

@@ -51,7 +51,7 @@ fn segment(n: usize) -> u32
     1u32 << exponent
 }
 
-// The number of segments less 3; the last row runs on past 65,536.
+// The number of segments less 3; the last row runs on past the most hashes.
 fn count(n: usize) -> u32
     requires { ⌜ 1 ≤ n ⌝ }
     ensures { λ r. ⌜ r ≡ segmentsOf n - 3 ⌝ }
@@ -61,7 +61,10 @@ fn count(n: usize) -> u32
 }
 
 impl Plan {
-    // The plan for n hashes. Callers refuse more than 65,536 themselves.
+    // The most hashes: the table ends there.
+    pub const MAX_HASHES: usize = 65_536;
+
+    // The plan for n hashes. Callers refuse more than MAX_HASHES themselves.
     pub fn of(n: usize) -> Plan
         ensures { λ r. ⌜ r ≡ planOf n ⌝ }
     {
