@@ -57,6 +57,7 @@ pub const ALL: &[Entry] = &[
     entry::<sort::Falling>(),
     entry::<sort::Equal>(),
     entry::<sort::Worst>(),
+    entry::<sort::Alternating>(),
     entry::<finish::Finish>(),
     entry::<finish::Package>(),
     entry::<validate::Validate>(),

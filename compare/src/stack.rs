@@ -91,6 +91,7 @@ fn orders(n: usize) -> Vec<(&'static str, Vec<u64>)> {
         ("powers of two", (0..m).map(|i| 1 << (i * 7 % 64)).collect()),
         ("rising, the last one least", (1..m).chain([0]).collect()),
         ("worst", worst::order(n)),
+        ("alternating", worst::alternating(n)),
     ]
 }
 

@@ -1,4 +1,4 @@
-//! Sorting hashes, against `sort_unstable`: random, rising, falling, equal, the worst order.
+//! Sorting hashes, against `sort_unstable`: random, rising, falling, equal, and two orders against its pivots.
 use super::Bench;
 use crate::{ours, worst};
 use oracle::Rng;
@@ -25,6 +25,7 @@ pub struct Rising;
 pub struct Falling;
 pub struct Equal;
 pub struct Worst;
+pub struct Alternating;
 impl Order for Random {
     const NAME: &'static str = "sort, random";
     const FRESH: bool = true;
@@ -57,6 +58,12 @@ impl Order for Worst {
     const NAME: &'static str = "sort, worst";
     fn of(random: Vec<u64>) -> Vec<u64> {
         worst::order(random.len())
+    }
+}
+impl Order for Alternating {
+    const NAME: &'static str = "sort, alternating";
+    fn of(random: Vec<u64>) -> Vec<u64> {
+        worst::alternating(random.len())
     }
 }
 

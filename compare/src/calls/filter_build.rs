@@ -44,7 +44,7 @@ impl Call for FilterBuild {
     const ONE_IN: u64 = 10;
     const MET: &'static [u64] = &[0, 6, 9, 12];
 
-    /// No hash, few, as many as there may be, one more; lengths one short; equal hashes, also in the order that sorting takes longest
+    /// No hash, few, as many as there may be, one more; lengths one short; equal hashes, also in the orders that sorting takes longest
     /// for; both ends of every row of the sizes; hashes that no attempt peels, and such with one of them drawn anew.
     fn fixed() -> Vec<Case> {
         let made = |n: u64| (0..n).map(|i| paper::mix(i.wrapping_mul(paper::STEP))).collect::<Vec<u64>>();
@@ -55,7 +55,7 @@ impl Call for FilterBuild {
         let none = [48, 47].map(|out| Case { wide: 0, narrow: 0, out, answers: 1, hashes: Vec::new() });
         let rows = (5..65_536).filter(|&n| paper::sizing(n) != paper::sizing(n + 1));
         let ends = rows.flat_map(|n| [n, n + 1]).map(|n| fit(made(n)));
-        let equal = [vec![0, 0], worst::order(65_536)].map(fit);
+        let equal = [vec![0, 0], worst::order(65_536), worst::alternating(65_536)].map(fit);
         let mut r = Rng(1);
         let mut hunted: Vec<Vec<u64>> = [200, 300, 5_000, 65_536].map(|n| hunt::exhaust_pairs(n, &mut r)).into();
         for at in (0..200).step_by(10) {

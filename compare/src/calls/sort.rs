@@ -11,8 +11,9 @@ pub struct Answer {
     pub hashes: Vec<u64>,
 }
 
-/// So many hashes in each order: in none, rising, falling, rising and falling, few that differ, all equal, the worst.
-fn orders(n: u64) -> [Vec<u64>; 7] {
+/// So many hashes in each order: in none, rising, falling, rising and falling, few that differ, all equal, those against the
+/// pivots.
+fn orders(n: u64) -> [Vec<u64>; 8] {
     let mut r = Rng(n);
     let random: Vec<u64> = (0..n).map(|_| r.next()).collect();
     let mut rising = random.clone();
@@ -20,7 +21,7 @@ fn orders(n: u64) -> [Vec<u64>; 7] {
     let falling = rising.iter().rev().copied().collect();
     let both = rising.iter().step_by(2).chain(rising.iter().rev().step_by(2)).copied().collect();
     let few = random.iter().map(|h| h % 3).collect();
-    [random, rising, falling, both, few, vec![n; n as usize], worst::order(n as usize)]
+    [random, rising, falling, both, few, vec![n; n as usize], worst::order(n as usize), worst::alternating(n as usize)]
 }
 
 impl Call for Sort {
