@@ -12,8 +12,8 @@ use Rattle.builder.specs.declared.PointBuilder.{PointBuilder}
 use Rattle.builder.specs.declared.Added.the-variants as added
 use Rattle.builder.specs.declared.OffsetSet.the-variants as offset-set
 use Rattle.builder.specs.State.{fits}
-use Rattle.builder.specs.Add.{addRefusal, nextState, nextPlace, recordOf, appended, addOf, bufferAfterAdd}
-use Rattle.builder.specs.SetOffset.{setCauses, setRefusal, setOf, bufferAfterSet}
+use Rattle.builder.specs.Add.{addRefusal, nextState, nextPlace, recordOf, appended, addOf, bufferAfterAdd, addedNumber}
+use Rattle.builder.specs.SetOffset.{setCauses, setRefusal, setOf, bufferAfterSet, setNumber}
 use Rattle.words.specs.Field.{bytesOf, splice}
 
 -- an answer by a test of the refusal: what was picked says what the refusal is
@@ -68,6 +68,16 @@ module _ (s : PointBuilder) (buffer key : List ℕ) (kind : Kind) (size sequence
   unfolding addOf bufferAfterAdd
   refused-given {n} e h = (rw (e, ne-eqb n 0 h), rw (e, ne-eqb n 0 h))
 
+  -- the number of the answer is the refusal
+  pub add-number : addedNumber (addOf s buffer key kind size sequence newKey) ≡ addRefusal s buffer key kind size sequence newKey
+  unfolding addOf
+  add-number = go (eqb (addRefusal s buffer key kind size sequence newKey) 0) refl
+    where
+      go : (t : Bool) → eqb (addRefusal s buffer key kind size sequence newKey) 0 ≡ t
+          → addedNumber (cond t (added.Taken (nextState s key newKey) (nextPlace s key newKey)) (added.Refused (addRefusal s buffer key kind size sequence newKey))) ≡ addRefusal s buffer key kind size sequence newKey
+      go true h = sym (eqb-true _ 0 h)
+      go false h = refl
+
 module _ (s : PointBuilder) (buffer : List ℕ) (place : ℕ) where
   pub set-numbered : Numbered (setCauses s buffer place)
   unfolding setCauses
@@ -106,3 +116,12 @@ module _ (s : PointBuilder) (buffer : List ℕ) (place : ℕ) where
   pub unset-given : {n : ℕ} (offset : ℕ) → setRefusal s buffer place ≡ n → (n ≡ 0 → ⊥) → (setOf s buffer place ≡ offset-set.Refused n) × (bufferAfterSet s buffer place offset ≡ buffer)
   unfolding setOf bufferAfterSet
   unset-given {n} offset e h = (rw (e, ne-eqb n 0 h), rw (e, ne-eqb n 0 h))
+
+  -- the number of the answer is the refusal
+  pub set-number : setNumber (setOf s buffer place) ≡ setRefusal s buffer place
+  unfolding setOf
+  set-number = go (eqb (setRefusal s buffer place) 0) refl
+    where
+      go : (t : Bool) → eqb (setRefusal s buffer place) 0 ≡ t → setNumber (cond t offset-set.Set (offset-set.Refused (setRefusal s buffer place))) ≡ setRefusal s buffer place
+      go true h = sym (eqb-true _ 0 h)
+      go false h = refl

@@ -3,12 +3,12 @@
 use Prim.Native.Nat.{ℕ, _+_, _-_, _≤_, _<_}
 use mathlib.Core.Path.{_≡_, refl, sym, ap, _∙_}
 use mathlib.Core.Bool.{Bool, true, false}
-use mathlib.Core.List.{List}
+use mathlib.Core.List.{List, [], _∷_}
 use native.Mathlib.Omega.{arith}
 use borrow.Author.Tests.{le-ltb, lt-leb, le-leb, ne-eqb}
 use lib.ListN.{length, drop}
 use lib.Seq.{drop-drop}
-use Rattle.laws.specs.Refusals.{Cause, First, here, later, None, none-here, none-more, Numbered, numbered-more, first-given, first-only, none-given, none-only}
+use Rattle.laws.specs.Refusals.{First, here, later, None, none-here, none-more, first-given, first-only, first-positive, none-given, none-only}
 use Rattle.words.specs.Field.{bytesOf, splice}
 use Rattle.words.proofs.Laws.{length-bytesOf, length-splice, drop-splice}
 use Rattle.words.proofs.Ordered.{same-self}
@@ -23,19 +23,14 @@ use Rattle.builder.specs.declared.Added.the-variants as added
 use Rattle.builder.specs.declared.OffsetSet.{OffsetSet}
 use Rattle.builder.specs.declared.OffsetSet.the-variants as offset-set
 use Rattle.builder.specs.State.{fits, lastOf, roomOf}
-use Rattle.builder.specs.Add.{newCauses, continuedCauses, addCauses, addRefusal, nextState, nextPlace, recordOf, newEntry, appended, addOf, bufferAfterAdd, AddPost}
-use Rattle.builder.specs.SetOffset.{setCauses, setOf, bufferAfterSet, SetPost}
+use Rattle.builder.specs.Add.{newCauses, continuedCauses, addCauses, addRefusal, nextState, nextPlace, recordOf, newEntry, appended, addOf, bufferAfterAdd, addedNumber, stateValues, addedValues, AddPost}
+use Rattle.builder.specs.SetOffset.{setCauses, setOf, bufferAfterSet, setNumber, SetPost}
 use Rattle.builder.specs.Taken.{Taken}
 use Rattle.builder.proofs.StateLaws.{fits-known}
 use Rattle.builder.proofs.AddLaws.{Sized, Opened, Continued, add-numbered, new-ready, continued-ready}
-use Rattle.builder.proofs.AnswerLaws.{taken-known, taken-given, buffer-taken, refused-known, refused-given, set-numbered, set-passed, set-known, set-given, buffer-set, unset-known, unset-given}
+use Rattle.builder.proofs.AnswerLaws.{taken-known, taken-given, buffer-taken, refused-known, refused-given, add-number, set-numbered, set-passed, set-known, set-given, buffer-set, unset-known, unset-given, set-number}
 use Rattle.builder.proofs.HeldLaws.{ending}
 use Rattle.builder.proofs.TakenTheorems.{taken-last}
-
--- a number of a row is above 0
-numbers-some : {n : ℕ} {cs : List Cause} → Numbered cs → First n cs → n ≡ 0 → ⊥
-numbers-some (numbered-more p ns) (here h e) z = omega arith
-numbers-some (numbered-more p ns) (later h f) z = numbers-some ns f z
 
 positive : (n : ℕ) → (n ≡ 0 → ⊥) → 0 < n
 positive n h = omega arith
@@ -56,7 +51,7 @@ module _ (s : PointBuilder) (buffer key : List ℕ) (kind : Kind) (size sequence
         → (addOf s buffer key kind size sequence newKey ≡ added.Refused n) × (bufferAfterAdd s buffer key kind size sequence newKey ≡ buffer)
     unfolding addRefusal
     add-refuses f =
-        refused-given s buffer key kind size sequence newKey (first-given f) (numbers-some (add-numbered s buffer key kind size sequence newKey) f)
+        refused-given s buffer key kind size sequence newKey (first-given f) (λ z. omega (arith, first-positive (add-numbered s buffer key kind size sequence newKey) f))
 
     -- and only there
     pub add-refuses-only : {n : ℕ} → addOf s buffer key kind size sequence newKey ≡ added.Refused n
@@ -81,6 +76,29 @@ module _ (s : PointBuilder) (buffer key : List ℕ) (kind : Kind) (size sequence
     add-takes-only e =
         let p = taken-known s buffer key kind size sequence newKey e in
         (none-only (add-numbered s buffer key kind size sequence newKey) (p .0), p .1, p .2)
+
+    -- THEOREM: the answer's number, above 0, is that of the first cause that holds, both ways
+    pub add-cause : (n : ℕ) → 0 < n → addedNumber (addOf s buffer key kind size sequence newKey) ≡ n
+        → First n (addCauses s (fits s buffer) (lastOf s buffer) (roomOf s buffer) key kind size sequence newKey)
+    unfolding addRefusal
+    add-cause n l e = first-only n _ l (sym (add-number s buffer key kind size sequence newKey) ∙ e)
+
+    pub cause-add : (n : ℕ) → First n (addCauses s (fits s buffer) (lastOf s buffer) (roomOf s buffer) key kind size sequence newKey)
+        → addedNumber (addOf s buffer key kind size sequence newKey) ≡ n
+    unfolding addRefusal
+    cause-add n f = add-number s buffer key kind size sequence newKey ∙ first-given f
+
+    -- THEOREM: the number of a record taken is 0, and its values are the next state's words and the patch place
+    pub taken-values : None (addCauses s (fits s buffer) (lastOf s buffer) (roomOf s buffer) key kind size sequence newKey)
+        → (addedNumber (addOf s buffer key kind size sequence newKey) ≡ 0)
+        × (stateValues (addOf s buffer key kind size sequence newKey) ≡ nextState s key newKey .used ∷ nextState s key newKey .keys ∷ nextState s key newKey .head ∷ [])
+        × (addedValues (addOf s buffer key kind size sequence newKey) ≡ nextPlace s key newKey ∷ [])
+    taken-values f = let e = add-takes f .0 in (ap addedNumber e, ap stateValues e, ap addedValues e)
+
+    -- THEOREM: a refusal has no values
+    pub refused-values : {n : ℕ} → First n (addCauses s (fits s buffer) (lastOf s buffer) (roomOf s buffer) key kind size sequence newKey)
+        → (stateValues (addOf s buffer key kind size sequence newKey) ≡ []) × (addedValues (addOf s buffer key kind size sequence newKey) ≡ [])
+    refused-values f = let e = add-refuses f .0 in (ap stateValues e, ap addedValues e)
 
     -- THEOREM: two results that meet the contract coincide, the buffer included
     pub add-unique : {r₁ r₂ : Added} {after₁ after₂ : List ℕ} → AddPost s buffer key kind size sequence newKey r₁ after₁ → AddPost s buffer key kind size sequence newKey r₂ after₂ → (r₁ ≡ r₂) × (after₁ ≡ after₂)
@@ -156,13 +174,20 @@ oldest-first-refused-of-list {s} {buffer} front key older newest kind size seque
 module _ (s : PointBuilder) (buffer : List ℕ) (place offset : ℕ) where
   -- THEOREM: a number is given where its cause is the first that holds, and nothing changes
   pub set-refuses : {n : ℕ} → First n (setCauses s buffer place) → (setOf s buffer place ≡ offset-set.Refused n) × (bufferAfterSet s buffer place offset ≡ buffer)
-  set-refuses f = unset-given s buffer place offset (first-given f) (numbers-some (set-numbered s buffer place) f)
+  set-refuses f = unset-given s buffer place offset (first-given f) (λ z. omega (arith, first-positive (set-numbered s buffer place) f))
 
   -- and only there
   pub set-refuses-only : {n : ℕ} → setOf s buffer place ≡ offset-set.Refused n → First n (setCauses s buffer place)
   set-refuses-only {n} e =
       let p = unset-known s buffer place e in
       first-only n (setCauses s buffer place) (positive n (p .1)) (p .0)
+
+  -- THEOREM: the answer's number, above 0, is that of the first cause that holds, both ways
+  pub set-cause : (n : ℕ) → 0 < n → setNumber (setOf s buffer place) ≡ n → First n (setCauses s buffer place)
+  set-cause n l e = first-only n _ l (sym (set-number s buffer place) ∙ e)
+
+  pub cause-set : (n : ℕ) → First n (setCauses s buffer place) → setNumber (setOf s buffer place) ≡ n
+  cause-set n f = set-number s buffer place ∙ first-given f
 
   -- THEOREM: the offset is set where no cause holds, at its place
   pub set-takes : None (setCauses s buffer place) → (setOf s buffer place ≡ offset-set.Set) × (bufferAfterSet s buffer place offset ≡ splice buffer place (bytesOf 8 offset))

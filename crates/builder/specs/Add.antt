@@ -105,6 +105,15 @@ abbrev pub addedNumber : Added → ℕ
 addedNumber (Taken s place) = 0
 addedNumber (Refused n) = n
 
+-- its values: the words of the next state (used, keys, head), and the patch place; none for a refusal
+abbrev pub stateValues : Added → List ℕ
+stateValues (Taken next place) = next .used ∷ next .keys ∷ next .head ∷ []
+stateValues (Refused n) = []
+
+abbrev pub addedValues : Added → List ℕ
+addedValues (Taken next place) = place ∷ []
+addedValues (Refused n) = []
+
 -- what add commits to: its answer, and every byte of the buffer
 pub record AddPost (s : PointBuilder) (before key : List ℕ) (kind : Kind) (size sequence : ℕ) (newKey : Bool) (r : Added) (after : List ℕ) : Type 0 where
   pub answer : r ≡ addOf s before key kind size sequence newKey

@@ -1,14 +1,15 @@
--- The eight attempts: all fail, or the first that does not is taken, and then every key is found. Assumes nothing.
+-- The eight attempts: all fail, or the first that does not is taken, and then every key is found; the number and value of the answer.
+-- Assumes nothing.
 use Prim.Native.Nat.{ℕ, _<_}
 use mathlib.Core.Path.{_≡_, refl, sym, ap, _∙_}
-use mathlib.Core.List.{List}
+use mathlib.Core.List.{List, [], _∷_}
 use mathlib.Core.Option.{Option, none, some}
 use native.Mathlib.Omega.{arith}
 use lib.ListN.{length}
 use Rattle.laws.specs.Steps.{least-found, least-before, least-none, least-of-none}
 use Rattle.construct.specs.Construct.{attempts, Placing, attemptOf, constructOf}
 use Rattle.construct.specs.Promised.{Whole, Pilots}
-use Rattle.construct.specs.Layout.{answerOf, numberOf, Built}
+use Rattle.construct.specs.Layout.{answerOf, numberOf, valuesOf, Built}
 use Rattle.construct.specs.declared.Constructed.{Constructed}
 use Rattle.construct.proofs.Placed.{placed}
 use Rattle.construct.proofs.Choosing.{pilots-least}
@@ -47,3 +48,10 @@ module _ (hashes : ℕ → List ℕ) where
 
     pub fails-ten : ((i : ℕ) → i < 8 → attemptOf (hashes i) ≡ none) → numberOf r ≡ 10
     fails-ten f = ap numberOf (B .answer ∙ ap answerOf (none-left f))
+
+    -- 0, AND THE ATTEMPT, WHERE ONE IS TAKEN; 10 has no value
+    pub taken-values : (i : ℕ) (pl : Placing) → constructOf hashes ≡ some (i, pl) → (numberOf r ≡ 0) × (valuesOf r ≡ i ∷ [])
+    taken-values i pl e = let a = B .answer ∙ ap answerOf e in (ap numberOf a, ap valuesOf a)
+
+    pub ten-values : numberOf r ≡ 10 → valuesOf r ≡ []
+    ten-values e = ap valuesOf (B .answer ∙ ap answerOf (none-left (ten-fails e)))

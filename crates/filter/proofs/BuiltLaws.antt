@@ -1,13 +1,13 @@
--- What building promises: Positive exactly for its causes; a filter has the right sizes and keys, is read as what was built, and never calls
--- one of its hashes absent; the closing check never fails; two results coincide. Assumes nothing.
+-- What building promises: each number, and Positive, exactly for its causes; a filter has the right sizes and keys, is read as what was built,
+-- and never calls one of its hashes absent; the closing check never fails; two results coincide. Assumes nothing.
 use mathlib.Core.Path.{_≡_, refl, sym, ap, _∙_, subst}
 use mathlib.Core.Bool.{true}
-use mathlib.Core.List.{List, _++_}
+use mathlib.Core.List.{List, [], _∷_, _++_}
 use mathlib.Core.Option.{Option, none, some}
 use Prim.Native.Nat.{ℕ, zero, suc, _+_, _*_, _^_, _≤_, _<_}
 use native.Mathlib.Omega.{arith}
-use lib.ListN.{length, take, drop, length-append}
-use lib.Seq.{take-at, drop-at}
+use lib.ListN.{length, take, length-append}
+use lib.Seq.{take-at}
 use Rattle.laws.specs.Refusals.{First, first-given, first-only}
 use Rattle.laws.specs.Count.{count}
 use Rattle.words.proofs.PartLaws.{splice-front}
@@ -16,7 +16,6 @@ use Rattle.fuse.specs.declared.Sizes.{Sizes}
 use Rattle.fuse.specs.Positions.{cellsIn, Usable}
 use Rattle.fuse.specs.Asking.{containsOf}
 use Rattle.fuse.specs.Layout.{positiveBytes, headerOf, Accepted}
-use Rattle.fuse.proofs.FitLaws.{accepted-fitting}
 use Rattle.fuse.proofs.HeaderLaws.{header-length, positive-length}
 use Rattle.sizing.specs.Table.{mostHashes}
 use Rattle.sizing.specs.Sizing.{sizesOf}
@@ -26,16 +25,14 @@ use Rattle.sort.proofs.TwinLaws.{twins-sorted, repeats-doubles}
 use Rattle.sort.proofs.SortLaws.{count-sorted}
 use Rattle.peel.specs.Peel.{succeeds, cellsOf}
 use Rattle.peel.proofs.AttemptLaws.{check-never-fails, cells-length}
-use Rattle.filter.specs.declared.SstFilter.{SstFilter}
 use Rattle.filter.specs.declared.SstFilter.the-variants as read
 use Rattle.filter.specs.declared.Answer.the-variants.{Maybe}
 use Rattle.filter.specs.declared.Built.{Built}
 use Rattle.filter.specs.declared.Built.the-variants.{Positive, Fuse, Refused}
 use Rattle.filter.specs.Reading.{readOf, positive, fuse}
-use Rattle.filter.specs.Asking.{askCellsOf, askOf}
-use Rattle.filter.specs.Building.{buildCauses, buildRefusal, attemptOf, seeded, byAttempt, builtOf, unlessRefused, buildOf, writtenBy, lengthBy, outBy, BuildPost, WhyPositive, no-hashes, equal-hashes, no-attempt, FilterOf, asRead}
-use Rattle.filter.proofs.AskLaws.{ask-positive, ask-fuse}
-use Rattle.filter.proofs.ExactLaws.{layout-reads}
+use Rattle.filter.specs.Asking.{askOf}
+use Rattle.filter.specs.Building.{buildCauses, buildRefusal, attemptOf, seeded, byAttempt, builtOf, unlessRefused, buildOf, builtRefusal, writtenBy, lengthBy, builtValues, outBy, BuildPost, WhyPositive, no-hashes, equal-hashes, no-attempt, FilterOf, asRead}
+use Rattle.filter.proofs.ExactLaws.{layout-reads, positive-asks, fuse-asks}
 use Rattle.filter.proofs.BuildingLaws.{attempt-none, none-attempt, attempt-some, roomy, Way, empty, double, tried, way, not-refused}
 
 built-way : (hashes : List ℕ) → Way (length hashes) (sorted hashes) (builtOf hashes)
@@ -120,12 +117,16 @@ module _ (hashes : List ℕ) (s : Sizes) (F : FilterOf hashes s) (few : length h
 
 -- ---- the bytes written
 
+written-length : (b : Built) (hs : List ℕ) → ((q : ℕ) → b ≡ Refused q → ⊥) → length (writtenBy b hs) ≡ lengthBy b
+written-length Positive hs n = positive-length
+written-length (Fuse s) hs n =
+    omega (arith, length-append (headerOf s) (cellsOf (s .segment) (s .count) (s .seed) hs), header-length s, cells-length (s .segment) (s .count) (s .seed) hs)
+written-length (Refused r) hs n = absurd (n r refl)
+
 written-by : (b : Built) (hs out : List ℕ) → ((q : ℕ) → b ≡ Refused q → ⊥) → take (lengthBy b) (outBy b hs out) ≡ writtenBy b hs
 written-by Positive hs out n = ap (take 48) (splice-front out positiveBytes) ∙ take-at positiveBytes _ 48 positive-length
 written-by (Fuse s) hs out n =
-    ap (take (48 + cellsIn (s .segment) (s .count))) (splice-front out (headerOf s ++ cellsOf (s .segment) (s .count) (s .seed) hs))
-    ∙ take-at (headerOf s ++ cellsOf (s .segment) (s .count) (s .seed) hs) _ (48 + cellsIn (s .segment) (s .count))
-    (omega (arith, length-append (headerOf s) (cellsOf (s .segment) (s .count) (s .seed) hs), header-length s, cells-length (s .segment) (s .count) (s .seed) hs))
+    ap (take (lengthBy (Fuse s))) (splice-front out (writtenBy (Fuse s) hs)) ∙ take-at (writtenBy (Fuse s) hs) _ (lengthBy (Fuse s)) (written-length (Fuse s) hs n)
 written-by (Refused r) hs out n = absurd (n r refl)
 
 module _ (hashes : List ℕ) (few : length hashes ≤ mostHashes) where
@@ -139,15 +140,11 @@ module _ (hashes : List ℕ) (few : length hashes ≤ mostHashes) where
 
   asks-by : (b : Built) → builtOf hashes ≡ b → ((q : ℕ) → b ≡ Refused q → ⊥) → (hash : ℕ) → 1 ≤ count hash hashes
       → askOf (writtenBy b (sorted hashes)) hash ≡ Maybe
-  unfolding askOf
-  asks-by Positive e n hash k =
-      ap (λ (f : SstFilter). askCellsOf f (drop 48 positiveBytes) hash) (reads-by Positive e n) ∙ sym (ask-positive read.Positive (drop 48 positiveBytes) hash refl)
+  asks-by Positive e n hash k = positive-asks hash
   asks-by (Fuse s) e n hash k =
       let F = built-filter hashes few s e in
-      let cells : List ℕ = cellsOf (s .segment) (s .count) (s .seed) (sorted hashes) in
-      ap (λ (f : SstFilter). askCellsOf f (drop 48 (headerOf s ++ cells)) hash) (reads-by (Fuse s) e n)
-      ∙ ap (λ (c : List ℕ). askCellsOf (read.Fuse s) c hash) (drop-at (headerOf s) cells 48 (header-length s))
-      ∙ sym (ask-fuse (read.Fuse s) cells hash s refl true (sym (accepted-fitting s (length cells) (filter-accepted hashes s F few))) (sym (closing-check hashes s F few hash k)))
+      fuse-asks s (cellsOf (s .segment) (s .count) (s .seed) (sorted hashes)) (filter-accepted hashes s F few) (filter-seed hashes s F few) hash
+      ∙ rw (closing-check hashes s F few hash k)
   asks-by (Refused r) e n hash k = absurd (n r refl)
 
 -- ---- the call
@@ -156,9 +153,18 @@ passed : (k : ℕ) (b x : Built) → unlessRefused k b ≡ x → ((q : ℕ) → 
 passed zero b x e n = (refl, e)
 passed (suc k) b x e n = absurd (n (suc k) (sym e))
 
-refused-is : (k : ℕ) (b : Built) (q : ℕ) → unlessRefused k b ≡ Refused q → ((p : ℕ) → b ≡ Refused p → ⊥) → (k ≡ q) × (0 < q)
-refused-is zero b q e n = absurd (n q e)
-refused-is (suc k) b q e n = let z : suc k ≡ q = cc in (z, omega arith)
+-- the number of an answer is the refusal
+number-by : (k : ℕ) (b : Built) → ((q : ℕ) → b ≡ Refused q → ⊥) → builtRefusal (unlessRefused k b) ≡ k
+number-by zero Positive n = refl
+number-by zero (Fuse s) n = refl
+number-by zero (Refused q) n = absurd (n q refl)
+number-by (suc k) b n = refl
+
+-- and a number above 0 is a refusal's
+pub number-refuses : (b : Built) (q : ℕ) → 0 < q → builtRefusal b ≡ q → b ≡ Refused q
+number-refuses Positive q l e = absurd (omega arith)
+number-refuses (Fuse s) q l e = absurd (omega arith)
+number-refuses (Refused r) q l e = ap Refused e
 
 module _ {hashes wide narrow out : List ℕ} {r : Built} {hashes' wide' narrow' out' : List ℕ} (P : BuildPost hashes wide narrow out r hashes' wide' narrow' out') where
   number : ℕ
@@ -168,21 +174,25 @@ module _ {hashes wide narrow out : List ℕ} {r : Built} {hashes' wide' narrow' 
   unfolding buildOf number
   answered = sym (P .answer)
 
-  -- a refusal has its cause: the first of the checks that fails
-  pub refused-cause : (q : ℕ) → r ≡ Refused q → First q (buildCauses (length hashes) (length wide) (length narrow) (length out))
-  unfolding buildRefusal number
-  refused-cause q e =
-      let f = refused-is number (builtOf hashes) q (answered ∙ e) (not-refused (length hashes) (sorted hashes) (builtOf hashes) (built-way hashes)) in
-      first-only q _ (f .1) (f .0)
+  unrefused : (q : ℕ) → builtOf hashes ≡ Refused q → ⊥
+  unrefused = not-refused (length hashes) (sorted hashes) (builtOf hashes) (built-way hashes)
 
-  -- and where a check fails there is a refusal
-  pub cause-refused : (q : ℕ) → 0 < q → First q (buildCauses (length hashes) (length wide) (length narrow) (length out)) → r ≡ Refused q
+  build-number : builtRefusal r ≡ number
+  build-number = ap builtRefusal (sym answered) ∙ number-by number (builtOf hashes) unrefused
+
+  -- a number has its cause: the first of the checks that fails
+  pub refused-cause : (q : ℕ) → 0 < q → builtRefusal r ≡ q → First q (buildCauses (length hashes) (length wide) (length narrow) (length out))
   unfolding buildRefusal number
-  cause-refused q l f = sym answered ∙ ap (λ (k : ℕ). unlessRefused k (builtOf hashes)) (first-given f) ∙ go q l
-    where
-      go : (q : ℕ) → 0 < q → unlessRefused q (builtOf hashes) ≡ Refused q
-      go zero l = absurd (omega arith)
-      go (suc q) l = refl
+  refused-cause q l e = first-only q _ l (sym build-number ∙ e)
+
+  -- and where a check fails its number is given
+  pub cause-refused : (q : ℕ) → First q (buildCauses (length hashes) (length wide) (length narrow) (length out)) → builtRefusal r ≡ q
+  unfolding buildRefusal number
+  cause-refused q f = build-number ∙ first-given f
+
+  -- 0 is no refusal
+  pub zero-accepts : builtRefusal r ≡ 0 → (q : ℕ) → r ≡ Refused q → ⊥
+  zero-accepts z q e = unrefused q (ap (λ (k : ℕ). unlessRefused k (builtOf hashes)) (sym z ∙ build-number) ∙ answered ∙ e)
 
   -- Positive has its exact causes
   pub positive-cause : r ≡ Positive → WhyPositive hashes
@@ -213,6 +223,15 @@ module _ {hashes wide narrow out : List ℕ} {r : Built} {hashes' wide' narrow' 
     pub written : take (lengthBy r) out' ≡ writtenBy r (sorted hashes)
     written =
         ap (take (lengthBy r)) (P .out-after ∙ ap (λ (b : Built). outBy b (sorted hashes) out) (sym (P .answer))) ∙ written-by r (sorted hashes) out n
+
+    -- its value is how many they are
+    pub built-values : builtValues r ≡ length (take (lengthBy r) out') ∷ []
+    built-values = go r n ∙ ap (λ (k : ℕ). k ∷ []) (sym (ap length written ∙ written-length r (sorted hashes) n))
+      where
+        go : (b : Built) → ((q : ℕ) → b ≡ Refused q → ⊥) → builtValues b ≡ lengthBy b ∷ []
+        go Positive m = refl
+        go (Fuse s) m = refl
+        go (Refused q) m = absurd (m q refl)
 
     -- what is built is accepted by reading, with its sizes
     pub built-reads : readOf (take (lengthBy r) out') ≡ asRead r

@@ -1,5 +1,5 @@
--- Reading accepts exactly the two layouts; refusal 15 has its exact cause; accepted bytes written again are the same bytes.
--- Assumes nothing.
+-- Reading accepts exactly the two layouts, with their values; 15 has its exact cause, in reading and in asking; accepted bytes written again
+-- are the same bytes. Assumes nothing.
 use mathlib.Core.Path.{_≡_, refl, sym, ap, _∙_, subst}
 use mathlib.Core.Bool.{Bool, true, false, cond}
 use mathlib.Core.List.{List, [], _∷_, _++_, append-nil}
@@ -7,7 +7,7 @@ use Prim.Native.Nat.{ℕ, suc, _+_, _-_, _^_, _≤_, _<_}
 use native.Mathlib.Omega.{arith}
 use borrow.Author.Tests.{eq-eqb, eqb-true, le-ltb}
 use lib.ListN.{length, drop, length-append, length-drop}
-use lib.Seq.{take-at}
+use lib.Seq.{take-at, drop-at}
 use Rattle.words.specs.Field.{bytesOf, splice}
 use Rattle.words.specs.Part.{sameAs}
 use Rattle.words.proofs.Laws.{AllBytes, le-lt}
@@ -22,8 +22,8 @@ use Rattle.filter.specs.declared.SstFilter.the-variants.{Positive, Fuse,
 use Rattle.filter.specs.declared.Answer.the-variants as answer
 use Rattle.filter.specs.declared.Written.{Written}
 use Rattle.filter.specs.declared.Written.the-variants.{Length}
-use Rattle.filter.specs.Reading.{readOf, frontOf, acceptable, Layout, positive, fuse}
-use Rattle.filter.specs.Asking.{askOf}
+use Rattle.filter.specs.Reading.{readOf, readRefusal, readValues, frontOf, acceptable, Layout, positive, fuse}
+use Rattle.filter.specs.Asking.{askCellsOf, askOf, askNumber}
 use Rattle.filter.specs.Writing.{bytesFor, writeOf, outputBy, WritePost}
 use Rattle.filter.proofs.ReadLaws.{read-positive, read-other, positive-bytes, fuse-sizes, fuse-accepted, fuse-bytes}
 use Rattle.filter.proofs.AskLaws.{ask-positive, ask-refused, ask-fuse}
@@ -73,17 +73,37 @@ laid-accepted : (bytes : List ℕ) (filter : SstFilter) → Layout bytes filter 
 laid-accepted bytes filter positive e = let z : _≡_ {A = ℕ} 0 1 = cc in omega arith
 laid-accepted bytes filter (fuse s cells a l) e = let z : _≡_ {A = ℕ} 0 1 = cc in omega arith
 
-pub refused-none : (bytes : List ℕ) → readOf bytes ≡ Refused → (filter : SstFilter) → Layout bytes filter → ⊥
-refused-none bytes e filter k = laid-accepted bytes filter k (sym (layout-reads bytes filter k) ∙ e)
+-- the number is 15 for that alone
+unread : (filter : SstFilter) → readRefusal filter ≡ 15 → filter ≡ Refused
+unread Positive e = absurd (omega arith)
+unread (Fuse s) e = absurd (omega arith)
+unread Refused e = refl
 
-pub none-refused : (bytes : List ℕ) → AllBytes bytes → ((filter : SstFilter) → Layout bytes filter → ⊥) → readOf bytes ≡ Refused
-none-refused bytes b no-way = by-case (readOf bytes) refl
+pub refused-none : (bytes : List ℕ) → readRefusal (readOf bytes) ≡ 15 → (filter : SstFilter) → Layout bytes filter → ⊥
+refused-none bytes e filter k = laid-accepted bytes filter k (sym (layout-reads bytes filter k) ∙ unread (readOf bytes) e)
+
+pub none-refused : (bytes : List ℕ) → AllBytes bytes → ((filter : SstFilter) → Layout bytes filter → ⊥) → readRefusal (readOf bytes) ≡ 15
+none-refused bytes b no-way = ap readRefusal (by-case (readOf bytes) refl)
   where
     by-case : (filter : SstFilter) → readOf bytes ≡ filter → readOf bytes ≡ Refused
     by-case Positive e = absurd (no-way Positive (reads-layout bytes b Positive e (λ q. laid-accepted positiveBytes Positive positive q)))
     by-case (Fuse s) e =
         absurd (no-way (Fuse s) (reads-layout bytes b (Fuse s) e (λ q. let z : _≡_ {A = ℕ} 0 1 = cc in omega arith)))
     by-case Refused e = e
+
+-- ---- 0, with its values, for each layout
+
+pub positive-values : (readRefusal (readOf positiveBytes) ≡ 0) × (readValues (readOf positiveBytes) ≡ 0 ∷ 0 ∷ 0 ∷ 0 ∷ 0 ∷ 0 ∷ [])
+positive-values = let e = layout-reads positiveBytes Positive positive in (ap readRefusal e, ap readValues e)
+
+pub fuse-values : (s : Sizes) (cells : List ℕ) → Accepted s (length cells) → s .seed < 2 ^ 64
+    → (readRefusal (readOf (headerOf s ++ cells)) ≡ 0)
+    × (readValues (readOf (headerOf s ++ cells)) ≡ 1 ∷ s .keys ∷ s .seed ∷ s .segment ∷ s .count ∷ length cells ∷ [])
+fuse-values s cells a l =
+    let e = layout-reads (headerOf s ++ cells) (Fuse s) (fuse s cells a l) in (
+      ap readRefusal e,
+      ap readValues e ∙ ap (λ (n : ℕ). 1 ∷ s .keys ∷ s .seed ∷ s .segment ∷ s .count ∷ n ∷ []) (sym (a .fits .whole)),
+    )
 
 -- ---- written again
 
@@ -138,24 +158,53 @@ written-again bytes filter e n out after r l w =
       w .output ∙ ap (λ (q : Written). outputBy q filter (drop 48 bytes) out) k ∙ ap (splice out 0) (same-again bytes filter e n),
     )
 
--- ---- asking refuses exactly where reading does
+-- ---- asking gives 15 exactly where reading does
 
-pub ask-refuses : (bytes : List ℕ) (hash : ℕ) → readOf bytes ≡ Refused → askOf bytes hash ≡ answer.Refused
+pub ask-refuses : (bytes : List ℕ) (hash : ℕ) → readRefusal (readOf bytes) ≡ 15 → askNumber (askOf bytes hash) ≡ 15
 unfolding askOf
-ask-refuses bytes hash e = sym (ask-refused (readOf bytes) (drop 48 bytes) hash e)
+ask-refuses bytes hash e = ap askNumber (sym (ask-refused (readOf bytes) (drop 48 bytes) hash (unread (readOf bytes) e)))
 
-pub ask-answers : (bytes : List ℕ) (hash : ℕ) → askOf bytes hash ≡ answer.Refused → readOf bytes ≡ Refused
+pub ask-answers : (bytes : List ℕ) (hash : ℕ) → askNumber (askOf bytes hash) ≡ 15 → readRefusal (readOf bytes) ≡ 15
 unfolding askOf
 ask-answers bytes hash a = by-case (readOf bytes) refl
   where
-    not-refused : (t : Bool) → cond t answer.Maybe answer.Absent ≡ answer.Refused → readOf bytes ≡ Refused
-    not-refused true q = cc
-    not-refused false q = cc
+    not-refused : (t : Bool) → askNumber (cond t answer.Maybe answer.Absent) ≡ 15 → ⊥
+    not-refused true q = omega arith
+    not-refused false q = omega arith
 
-    by-case : (filter : SstFilter) → readOf bytes ≡ filter → readOf bytes ≡ Refused
-    by-case Positive e = let m = ask-positive (readOf bytes) (drop 48 bytes) hash e in cc
+    by-case : (filter : SstFilter) → readOf bytes ≡ filter → readRefusal (readOf bytes) ≡ 15
+    by-case Positive e = absurd (not-refused true (ap askNumber (ask-positive (readOf bytes) (drop 48 bytes) hash e) ∙ a))
     by-case (Fuse s) e =
         let f = accepted-fitting s (length (drop 48 bytes)) (cells-accepted bytes s e) in
-        not-refused (containsOf (drop 48 bytes) s hash)
-        (ask-fuse (readOf bytes) (drop 48 bytes) hash s e (containsOf (drop 48 bytes) s hash) (sym f) refl ∙ a)
-    by-case Refused e = e
+        absurd
+        (not-refused (containsOf (drop 48 bytes) s hash)
+        (ap askNumber (ask-fuse (readOf bytes) (drop 48 bytes) hash s e (containsOf (drop 48 bytes) s hash) (sym f) refl) ∙ a))
+    by-case Refused e = ap readRefusal e
+
+-- ---- else maybe or absent, by the cells
+
+pub positive-asks : (hash : ℕ) → askOf positiveBytes hash ≡ answer.Maybe
+unfolding askOf
+positive-asks hash =
+    ap (λ (f : SstFilter). askCellsOf f (drop 48 positiveBytes) hash) (layout-reads positiveBytes Positive positive)
+    ∙ sym (ask-positive Positive (drop 48 positiveBytes) hash refl)
+
+module _ (s : Sizes) (cells : List ℕ) (a : Accepted s (length cells)) (l : s .seed < 2 ^ 64) (hash : ℕ) where
+  pub fuse-asks : askOf (headerOf s ++ cells) hash ≡ cond (containsOf cells s hash) answer.Maybe answer.Absent
+  unfolding askOf
+  fuse-asks =
+      ap (λ (f : SstFilter). askCellsOf f (drop 48 (headerOf s ++ cells)) hash) (layout-reads (headerOf s ++ cells) (Fuse s) (fuse s cells a l))
+      ∙ ap (λ (c : List ℕ). askCellsOf (Fuse s) c hash) (drop-at (headerOf s) cells 48 (header-length s))
+      ∙ sym (ask-fuse (Fuse s) cells hash s refl (containsOf cells s hash) (sym (accepted-fitting s (length cells) a)) refl)
+
+  -- 1 where the four cells of the hash say so, 0 where not
+  pub fuse-number : askNumber (askOf (headerOf s ++ cells) hash) ≡ cond (containsOf cells s hash) 1 0
+  fuse-number = ap askNumber fuse-asks ∙ go (containsOf cells s hash)
+    where
+      go : (t : Bool) → askNumber (cond t answer.Maybe answer.Absent) ≡ cond {A = ℕ} t 1 0
+      go true = refl
+      go false = refl
+
+-- and 1 for every hash of a Positive filter
+pub positive-number : (hash : ℕ) → askNumber (askOf positiveBytes hash) ≡ 1
+positive-number hash = ap askNumber (positive-asks hash)

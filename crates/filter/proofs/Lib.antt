@@ -2,6 +2,7 @@ pub mod ReadLaws
 pub mod AskLaws
 pub mod WriteLaws
 pub mod ExactLaws
+pub mod WrittenLaws
 pub mod UniqueLaws
 pub mod BuildingLaws
 pub mod BuiltLaws

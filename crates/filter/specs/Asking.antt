@@ -21,8 +21,8 @@ askCellsOf read.Refused cells hash = Refused
 unfoldable pub askOf : List ℕ → (hash : ℕ) → Answer
 askOf bytes hash = askCellsOf (readOf bytes) (drop 48 bytes) hash
 
--- this paper's number of an answer: 15 refuses
-abbrev pub askRefusal : Answer → ℕ
-askRefusal Absent = 0
-askRefusal Maybe = 0
-askRefusal Refused = 15
+-- this paper's number of an answer: 0 absent, 1 maybe, 15
+abbrev pub askNumber : Answer → ℕ
+askNumber Absent = 0
+askNumber Maybe = 1
+askNumber Refused = 15

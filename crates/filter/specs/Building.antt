@@ -125,6 +125,12 @@ lengthBy Positive = 48
 lengthBy (Fuse s) = 48 + cellsIn (s .segment) (s .count)
 lengthBy (Refused r) = 0
 
+-- this paper's value of an answer: that length, none for a refusal
+abbrev pub builtValues : Built → List ℕ
+builtValues Positive = lengthBy Positive ∷ []
+builtValues (Fuse s) = lengthBy (Fuse s) ∷ []
+builtValues (Refused r) = []
+
 -- the output: they stand in front of what stood there; refused, it is as it was
 abbrev pub outBy : Built → (hashes out : List ℕ) → List ℕ
 outBy Positive hashes out = splice out 0 (writtenBy Positive hashes)

@@ -1,11 +1,12 @@
 -- Reading a filter's bytes, after document 01, "Filter reading".
 use mathlib.Core.Bool.{Bool, false, cond}
-use mathlib.Core.List.{List, [], _++_}
+use mathlib.Core.List.{List, [], _∷_, _++_}
 use Prim.Native.Nat.{ℕ, _^_, _<_}
 use lib.Dec.{eqb}
 use lib.ListN.{length}
 use Rattle.words.specs.Part.{sameAs}
 use Rattle.fuse.specs.declared.Sizes.{Sizes}
+use Rattle.fuse.specs.Positions.{cellsIn}
 use Rattle.fuse.specs.Layout.{positiveBytes, headerOf, sizesIn, fitting, fuseLaid, Accepted}
 use Rattle.filter.specs.declared.SstFilter.{SstFilter}
 use Rattle.filter.specs.declared.SstFilter.the-variants.{Positive, Fuse, Refused}
@@ -19,6 +20,12 @@ abbrev pub readRefusal : SstFilter → ℕ
 readRefusal Positive = 0
 readRefusal (Fuse s) = 0
 readRefusal Refused = 15
+
+-- its values: 0 Positive or 1 Fuse, keys, seed, segment, count, cells; zeros after 0; none for what is refused
+abbrev pub readValues : SstFilter → List ℕ
+readValues Positive = 0 ∷ 0 ∷ 0 ∷ 0 ∷ 0 ∷ 0 ∷ []
+readValues (Fuse s) = 1 ∷ s .keys ∷ s .seed ∷ s .segment ∷ s .count ∷ cellsIn (s .segment) (s .count) ∷ []
+readValues Refused = []
 
 -- the bytes in front of the cells
 unfoldable pub frontOf : SstFilter → List ℕ

@@ -1,6 +1,6 @@
 -- Writing a filter: the bytes in front, then the cells.
 use mathlib.Core.Bool.{cond}
-use mathlib.Core.List.{List, _++_}
+use mathlib.Core.List.{List, [], _∷_, _++_}
 use mathlib.Core.Path.{_≡_}
 use Prim.Native.Nat.{ℕ, _+_}
 use lib.Dec.{ltb}
@@ -31,6 +31,12 @@ abbrev pub writeRefusal : Written → ℕ
 writeRefusal (Length n) = 0
 writeRefusal Unaccepted = 15
 writeRefusal Short = 6
+
+-- its value: how many bytes were written
+abbrev pub writtenValues : Written → List ℕ
+writtenValues (Length n) = n ∷ []
+writtenValues Unaccepted = []
+writtenValues Short = []
 
 -- what a call of write promises
 pub record WritePost (filter : SstFilter) (cells out : List ℕ) (r : Written) (after : List ℕ) : Type 0 where

@@ -1,10 +1,10 @@
--- What is promised of finish's answers: each number exactly for its cause; 10 exactly where each of the eight attempts fails; 11 never;
--- its result is fixed. Assumes nothing.
+-- What is promised of finish's answers: each number exactly for its cause, the body's length for none; 10 exactly where each of the eight
+-- attempts fails; 11 never; its result is fixed. Assumes nothing.
 use Prim.Native.Nat.{ℕ, zero, suc, _<_}
 use native.Mathlib.Omega.{arith}
 use mathlib.Core.Path.{_≡_, refl, sym, _∙_}
 use mathlib.Core.Bool.{true, false≢true}
-use mathlib.Core.List.{List}
+use mathlib.Core.List.{List, [], _∷_}
 use mathlib.Core.Option.{Option, none, some}
 use mathlib.Core.Logic.{_⊎_, inl, inr}
 use borrow.Author.Tests.{eqb-false}
@@ -15,7 +15,7 @@ use Rattle.construct.specs.Keys.{attemptHashes}
 use Rattle.construct.proofs.Exhausting.{all-fail, none-left}
 use Rattle.finish.specs.declared.Finished.{Finished}
 use Rattle.finish.specs.Body.{placedOf}
-use Rattle.finish.specs.Finish.{keysOf, unplaced, mismatched, lengthsRefusal, placingRefusal, finishCauses, finishRefusal, answered, bodyLength, finishOf, FinishPost, finishedNumber}
+use Rattle.finish.specs.Finish.{keysOf, unplaced, mismatched, lengthsRefusal, placingRefusal, finishCauses, finishRefusal, answered, bodyLength, finishOf, FinishPost, finishedNumber, finishedValues}
 use Rattle.finish.proofs.FinishLaws.{refused-late}
 use Rattle.finish.proofs.SelfCheck.{check-passes}
 
@@ -23,6 +23,11 @@ use Rattle.finish.proofs.SelfCheck.{check-passes}
 number-of : (r size : ℕ) → finishedNumber (answered r size) ≡ r
 number-of zero size = refl
 number-of (suc r) size = refl
+
+-- and its value the body's length, where there is none
+values-of : (r size : ℕ) → r ≡ 0 → finishedValues (answered r size) ≡ size ∷ []
+values-of zero size z = refl
+values-of (suc r) size z = absurd (omega arith)
 
 module _ (arena : List ℕ) (out wide narrow : ℕ) where
   pub finish-number : finishedNumber (finishOf arena out wide narrow) ≡ finishRefusal arena out wide narrow
@@ -37,6 +42,11 @@ module _ (arena : List ℕ) (out wide narrow : ℕ) where
   pub cause-given : (r : ℕ) → First r (finishCauses arena out wide narrow) → finishedNumber (finishOf arena out wide narrow) ≡ r
   unfolding finishRefusal
   cause-given r f = finish-number ∙ first-given f
+
+  -- THEOREM: the value of 0 is the body's length
+  pub finish-values : finishedNumber (finishOf arena out wide narrow) ≡ 0 → finishedValues (finishOf arena out wide narrow) ≡ bodyLength arena (keysOf arena) ∷ []
+  unfolding finishOf
+  finish-values e = values-of (finishRefusal arena out wide narrow) (bodyLength arena (keysOf arena)) (sym finish-number ∙ e)
 
   -- THEOREM: 10 exactly where nothing is refused before and each of the eight attempts fails
   pub ten-fails : finishedNumber (finishOf arena out wide narrow) ≡ 10 → (i : ℕ) → i < 8 → attemptOf (attemptHashes arena (keysOf arena) i) ≡ none

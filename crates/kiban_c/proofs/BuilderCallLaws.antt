@@ -14,9 +14,9 @@ use Rattle.records.specs.Rules.{badKind}
 use Rattle.builder.specs.declared.PointBuilder.{PointBuilder}
 use Rattle.builder.specs.declared.Added.{Added}
 use Rattle.builder.specs.declared.OffsetSet.{OffsetSet}
-use Rattle.builder.specs.Add.{addedNumber, AddPost}
+use Rattle.builder.specs.Add.{addedNumber, stateValues, addedValues, AddPost}
 use Rattle.builder.specs.SetOffset.{setNumber, SetPost}
-use Rattle.kiban_c.specs.BuilderCalls.{stateOf, flagOf, addChecks, addCalled, stateValues, addedValues, AddCall, setOffsetChecks, SetOffsetCall}
+use Rattle.kiban_c.specs.BuilderCalls.{stateOf, flagOf, addChecks, addCalled, AddCall, setOffsetChecks, SetOffsetCall}
 use Rattle.kiban_c.proofs.LentLaws.{first-number, first-left, none-number, none-left}
 
 -- ---- the checks of add, one after another

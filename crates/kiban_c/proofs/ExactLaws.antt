@@ -20,7 +20,7 @@ use Rattle.builder.specs.declared.Added.the-variants as added
 use Rattle.builder.specs.declared.OffsetSet.{OffsetSet}
 use Rattle.builder.specs.declared.OffsetSet.the-variants as offset-set
 use Rattle.builder.specs.State.{Last, fits, lastOf, roomOf}
-use Rattle.builder.specs.Add.{newCauses, continuedCauses, addCauses, addedNumber, addOf, bufferAfterAdd}
+use Rattle.builder.specs.Add.{newCauses, continuedCauses, addCauses, addedNumber, stateValues, addedValues, addOf, bufferAfterAdd}
 use Rattle.builder.specs.SetOffset.{setOf, bufferAfterSet, setNumber}
 use Rattle.builder.proofs.Answers.{add-refuses, add-refuses-only, set-refuses, set-refuses-only}
 use Rattle.finish.specs.declared.Finished.{Finished}
@@ -37,16 +37,16 @@ use Rattle.filter.specs.declared.SstFilter.{SstFilter}
 use Rattle.filter.specs.declared.SstFilter.the-variants as read
 use Rattle.filter.specs.declared.Built.{Built}
 use Rattle.filter.specs.declared.Built.the-variants as built
-use Rattle.filter.specs.Reading.{readOf, readRefusal}
-use Rattle.filter.specs.Building.{builtRefusal, hashesBy, spaceBy, outBy}
+use Rattle.filter.specs.Reading.{readOf, readRefusal, readValues}
+use Rattle.filter.specs.Building.{builtRefusal, builtValues, hashesBy, spaceBy, outBy}
 use Rattle.lines.specs.declared.Listed.the-variants.{Text, Refused}
 use Rattle.lines.specs.Listing.{listedOf, bufferOf, listedNumber, listedValues}
 use Rattle.kiban_c.specs.Lent.{answerShort, numberBy, leftBy}
 use Rattle.kiban_c.specs.SortCalls.{SortCall}
-use Rattle.kiban_c.specs.BuilderCalls.{stateOf, flagOf, addCalled, stateValues, addedValues, AddCall, SetOffsetCall}
+use Rattle.kiban_c.specs.BuilderCalls.{stateOf, flagOf, addCalled, AddCall, SetOffsetCall}
 use Rattle.kiban_c.specs.FinishCalls.{finishCalled, FinishCall}
 use Rattle.kiban_c.specs.PointCalls.{limitGiven, getCalled, GetCall}
-use Rattle.kiban_c.specs.FilterCalls.{builtValues, buildCalled, FilterBuildCall, readValues, FilterReadCall, askAllValues, FilterAskAllCall}
+use Rattle.kiban_c.specs.FilterCalls.{buildCalled, FilterBuildCall, FilterReadCall, askAllValues, FilterAskAllCall}
 use Rattle.kiban_c.specs.LinesCalls.{listingText, listingCalled, ListingCall}
 use Rattle.kiban_c.proofs.LentLaws.{first-number, none-number, short, enough}
 use Rattle.kiban_c.proofs.BuilderCallLaws.{add-short, add-stateless, add-kindless, add-passed, set-stateless, set-passed}

@@ -13,14 +13,14 @@ use Rattle.filter.specs.declared.SstFilter.{SstFilter}
 use Rattle.filter.specs.declared.SstFilter.the-variants.{Positive, Fuse, Refused}
 use Rattle.filter.specs.declared.Built.{Built}
 use Rattle.filter.specs.declared.Built.the-variants as built
-use Rattle.filter.specs.Reading.{readOf, readRefusal}
-use Rattle.filter.specs.Asking.{askCellsOf, askOf}
-use Rattle.filter.specs.Building.{BuildPost, builtRefusal}
+use Rattle.filter.specs.Reading.{readOf, readRefusal, readValues}
+use Rattle.filter.specs.Asking.{askCellsOf, askOf, askNumber}
+use Rattle.filter.specs.Building.{BuildPost, builtRefusal, builtValues}
 use Rattle.filter.proofs.ReadLaws.{fuse-accepted}
 use Rattle.filter.proofs.AskLaws.{ask-positive}
 use Rattle.filter.proofs.BuiltLaws.{built-usable}
 use Rattle.finish.proofs.RowLaws.{splice-none}
-use Rattle.kiban_c.specs.FilterCalls.{builtValues, FilterBuildCall, readValues, FilterReadCall, askNumber, filterAskOf, cellsAskOf, askAllValues, FilterAskAllCall}
+use Rattle.kiban_c.specs.FilterCalls.{FilterBuildCall, FilterReadCall, filterAskOf, cellsAskOf, askAllValues, FilterAskAllCall}
 use Rattle.kiban_c.proofs.LentLaws.{first-number, first-left, none-number, none-left, short, enough, put-length, put-next, put-whole}
 
 -- ---- building

@@ -10,8 +10,7 @@ use Rattle.words.specs.Field.{splice}
 use Rattle.records.specs.Places.{kindOf}
 use Rattle.builder.specs.declared.PointBuilder.{PointBuilder}
 use Rattle.builder.specs.declared.Added.{Added}
-use Rattle.builder.specs.declared.Added.the-variants.{Taken, Refused}
-use Rattle.builder.specs.Add.{addOf, bufferAfterAdd, addedNumber}
+use Rattle.builder.specs.Add.{addOf, bufferAfterAdd, addedNumber, stateValues, addedValues}
 use Rattle.builder.specs.SetOffset.{setOf, bufferAfterSet, setNumber}
 use Rattle.kiban_c.specs.Lent.{answerShort, stateShort, kindOther, numberBy, leftBy}
 
@@ -34,15 +33,6 @@ addCalled buffer state key kind size sequence newKey = addOf (stateOf state) buf
 -- the buffer that it leaves
 abbrev pub addBuffer : (buffer state key : List ℕ) (kind size sequence newKey : ℕ) → List ℕ
 addBuffer buffer state key kind size sequence newKey = bufferAfterAdd (stateOf state) buffer key (kindOf kind) size sequence (flagOf newKey)
-
--- the words of the next state, and of the answer: none for a refusal
-abbrev pub stateValues : Added → List ℕ
-stateValues (Taken next place) = next .used ∷ next .keys ∷ next .head ∷ []
-stateValues (Refused n) = []
-
-abbrev pub addedValues : Added → List ℕ
-addedValues (Taken next place) = place ∷ []
-addedValues (Refused n) = []
 
 -- what kiban_add commits to: the number, and every lent byte and word
 pub record AddCall (buffer state key : List ℕ) (kind size sequence newKey : ℕ) (answer : List ℕ) (r : ℕ) (buffer' state' answer' : List ℕ) : Type 0 where

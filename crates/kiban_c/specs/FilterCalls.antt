@@ -6,26 +6,16 @@ use lib.ListN.{length}
 use Rattle.laws.specs.Refusals.{Cause}
 use Rattle.words.specs.Field.{splice}
 use Rattle.fuse.specs.declared.Sizes.{Sizes}
-use Rattle.fuse.specs.Positions.{cellsIn}
 use Rattle.sort.specs.Sort.{sorted}
 use Rattle.filter.specs.declared.SstFilter.{SstFilter}
 use Rattle.filter.specs.declared.SstFilter.the-variants as read
-use Rattle.filter.specs.declared.Answer.{Answer}
-use Rattle.filter.specs.declared.Answer.the-variants as answer
 use Rattle.filter.specs.declared.Built.{Built}
-use Rattle.filter.specs.declared.Built.the-variants as built
-use Rattle.filter.specs.Reading.{readOf, readRefusal}
-use Rattle.filter.specs.Asking.{askCellsOf, askOf}
-use Rattle.filter.specs.Building.{buildOf, builtRefusal, hashesBy, spaceBy, outBy, lengthBy}
+use Rattle.filter.specs.Reading.{readOf, readRefusal, readValues}
+use Rattle.filter.specs.Asking.{askCellsOf, askOf, askNumber}
+use Rattle.filter.specs.Building.{buildOf, builtRefusal, builtValues, hashesBy, spaceBy, outBy}
 use Rattle.kiban_c.specs.Lent.{answerShort, numberBy, leftBy}
 
 -- ---- building
-
--- the answer's words: how many bytes were written, none for a refusal
-abbrev pub builtValues : Built → List ℕ
-builtValues built.Positive = lengthBy built.Positive ∷ []
-builtValues (built.Fuse s) = lengthBy (built.Fuse s) ∷ []
-builtValues (built.Refused n) = []
 
 -- what build answers, for what is lent
 abbrev pub buildCalled : (hashes wide narrow out : List ℕ) → Built
@@ -46,12 +36,6 @@ pub record FilterBuildCall (hashes wide narrow out answer : List ℕ) (r : ℕ) 
 
 -- ---- reading
 
--- 0 Positive or 1 Fuse, keys, seed, segment, count, cells; zeros after 0; no words for what is refused
-abbrev pub readValues : SstFilter → List ℕ
-readValues read.Positive = 0 ∷ 0 ∷ 0 ∷ 0 ∷ 0 ∷ 0 ∷ []
-readValues (read.Fuse s) = 1 ∷ s .keys ∷ s .seed ∷ s .segment ∷ s .count ∷ cellsIn (s .segment) (s .count) ∷ []
-readValues read.Refused = []
-
 -- what kiban_filter_read checks first: answer under 6 words, 6
 abbrev pub filterReadChecks : (answer : List ℕ) → List Cause
 filterReadChecks answer = answerShort answer 6 ∷ []
@@ -62,12 +46,6 @@ pub record FilterReadCall (bytes answer : List ℕ) (r : ℕ) (answer' : List �
   pub answer-after : answer' ≡ leftBy (filterReadChecks answer) answer (splice answer 0 (readValues (readOf bytes)))
 
 -- ---- asking
-
--- 0 absent, 1 maybe, 15
-abbrev pub askNumber : Answer → ℕ
-askNumber answer.Absent = 0
-askNumber answer.Maybe = 1
-askNumber answer.Refused = 15
 
 -- the number of a hash: what kiban_filter_ask returns
 abbrev pub filterAskOf : (bytes : List ℕ) (hash : ℕ) → ℕ

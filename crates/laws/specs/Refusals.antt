@@ -65,3 +65,8 @@ none-only (numbered-more {c} {cs} p r) e = go (c .holds) refl (none-only r)
     go : (b : Bool) → c .holds ≡ b → (firstOf cs ≡ 0 → None cs) → None (c ∷ cs)
     go true h rest = absurd (let z : c .number ≡ 0 = sym (ap (λ (x : Bool). cond x (c .number) (firstOf cs)) h) ∙ e in omega arith)
     go false h rest = none-more h (rest (sym (ap (λ (x : Bool). cond x (c .number) (firstOf cs)) h) ∙ e))
+
+-- every number of such a row is above 0
+pub first-positive : {n : ℕ} {cs : List Cause} → Numbered cs → First n cs → 0 < n
+first-positive (numbered-more p ns) (here h e) = omega arith
+first-positive (numbered-more p ns) (later h f) = first-positive ns f

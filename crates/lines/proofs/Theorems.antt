@@ -1,6 +1,6 @@
 -- What is promised of the listing: which keys are shown and with which record, that the header counts the lines, that keys rise, that the
--- call's answer and buffer are fixed, and the room that always suffices. Assumes nothing.
-use Prim.Native.Nat.{ℕ, _+_, _≤_}
+-- call's answer and buffer are fixed, its number and value, and the room that always suffices. Assumes nothing.
+use Prim.Native.Nat.{ℕ, _+_, _<_, _≤_}
 use native.Mathlib.Nat.{zero-add}
 use native.Mathlib.Omega.{arith}
 use mathlib.Core.Path.{_≡_, refl, sym, ap, _∙_}
@@ -9,7 +9,9 @@ use mathlib.Core.List.{List, [], _∷_, _++_, append-nil, List·Memᴰ}
 use mathlib.Core.List.List·Memᴰ.{List·Memᴰ·head, List·Memᴰ·tail}
 use mathlib.Core.Option.{Option, none, some}
 use lib.ListN.{length}
-use borrow.Author.Tests.{le-leb}
+use borrow.Author.Tests.{leb-false, le-leb, lt-leb}
+use lib.Dec.{leb}
+use Rattle.words.specs.Field.{splice}
 use Rattle.words.specs.declared.part.Order.the-variants.{Less}
 use Rattle.words.specs.Part.{orderOf}
 use Rattle.words.proofs.Ordered.{same-self, order-apart, order-trans}
@@ -20,10 +22,10 @@ use Rattle.records.specs.Model.{Entry, recordsOf, greatest, lookup, Rises}
 use Rattle.records.specs.Model.Rises.{rises-more}
 use Rattle.records.proofs.ModelLaws.{rises-rest, records-behind}
 use Rattle.lines.specs.declared.Listed.{Listed}
-use Rattle.lines.specs.declared.Listed.the-variants.{Text}
+use Rattle.lines.specs.declared.Listed.the-variants.{Text, Refused}
 use Rattle.lines.specs.Shown.{Rule, tombstoneIn, newestTombstone, shown, Shows, showsFor, shownOf, ShownRise, shownOne, shownCount}
 use Rattle.lines.specs.Shown.ShownRise.{shown-none, shown-one, shown-more}
-use Rattle.lines.specs.Listing.{lineOf, lineFor, linesOf, textOfShown, textOf, listedOf, Listing}
+use Rattle.lines.specs.Listing.{lineOf, lineFor, linesOf, textOfShown, textOf, listedOf, bufferOf, listedNumber, listedValues, Listing}
 
 -- ---- a key's records in a table whose keys rise are its entry's
 
@@ -117,6 +119,30 @@ module _ {rule : Rule} {input before : List ℕ} where
   -- THEOREM: two results that meet the contract coincide, buffer included
   pub listing-one : {r s : Listed} {after later : List ℕ} → Listing rule input before r after → Listing rule input before s later → (r ≡ s) × (after ≡ later)
   listing-one p q = (p .answer ∙ sym (q .answer), p .buffer ∙ sym (q .buffer))
+
+  module _ {r : Listed} {after : List ℕ} (P : Listing rule input before r after) where
+    -- THEOREM: a number above 0 is 6, for a buffer too short, which is left
+    pub listing-cause : (n : ℕ) → 0 < n → listedNumber r ≡ n → (n ≡ 6) × (length before < length (textOf rule input)) × (after ≡ before)
+    unfolding listedOf bufferOf
+    listing-cause n h e = go (leb (length (textOf rule input)) (length before)) refl (ap listedNumber (sym (P .answer)) ∙ e)
+      where
+        go : (b : Bool) → leb (length (textOf rule input)) (length before) ≡ b → listedNumber (cond b (Text (length (textOf rule input))) (Refused 6)) ≡ n
+            → (n ≡ 6) × (length before < length (textOf rule input)) × (after ≡ before)
+        go true q f = absurd (omega arith)
+        go false q f = (sym f, leb-false _ _ q, P .buffer ∙ rw q)
+
+    pub cause-listing : length before < length (textOf rule input) → listedNumber r ≡ 6
+    unfolding listedOf
+    cause-listing l = ap listedNumber (P .answer) ∙ rw (lt-leb (length (textOf rule input)) (length before) l)
+
+    -- THEOREM: with room the number is 0 and the value the text's length, and the text stands in front
+    pub room-values : length (textOf rule input) ≤ length before
+        → (listedNumber r ≡ 0) × (listedValues r ≡ length (textOf rule input) ∷ []) × (after ≡ splice before 0 (textOf rule input))
+    unfolding listedOf bufferOf
+    room-values l =
+        let t = le-leb (length (textOf rule input)) (length before) l in
+        let a : r ≡ Text (length (textOf rule input)) = P .answer ∙ rw t in
+        (ap listedNumber a, ap listedValues a, P .buffer ∙ rw t)
 
   -- THEOREM: 131,072 bytes of room suffice for every input
   pub room-suffices : {r : Listed} {after : List ℕ} → Listing rule input before r after → 131072 ≤ length before → r ≡ Text (length (textOf rule input))

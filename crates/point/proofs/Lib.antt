@@ -6,3 +6,4 @@ pub mod LookupLaws
 pub mod OpenLaws
 pub mod Theorems
 pub mod CauseLaws
+pub mod AnswerLaws

@@ -1,4 +1,5 @@
--- The exact cause of each number that validation refuses with (20 to 30), and of get's 14 (document 01, "Validation" and "Get").
+-- The exact cause of each number that validation refuses with (20 to 30), and of the 14 of get, of locating and of opening (document 01,
+-- "Validation" and "Get").
 use Prim.Native.Nat.{ℕ, suc, _+_, _<_, _≤_}
 use mathlib.Core.Path.{_≡_}
 use mathlib.Core.List.{List}
@@ -41,6 +42,18 @@ pub record Opens (body key : List ℕ) (p : ℕ) : Type 0 where
   pub whole : firstVersion body p ≤ length body
   pub same : sameAs (keyAt body p) key ≡ true
 
+-- locating a key meets damage (14): 20 or 21; a chosen direct pilot at or past n; the record's start past the body's end
+pub data LocatingDamaged (body key : List ℕ) : Type 0 where
+  header-damaged : (headerRefusal body ≡ 0 → ⊥) → LocatingDamaged body key
+  pilot-damaged : headerRefusal body ≡ 0 → directPast (keysIn body) (pilotOf body (hashOf (seedIn body) key)) ≡ true → LocatingDamaged body key
+  start-outside : (p : ℕ) → Leads body key p → length body < p → LocatingDamaged body key
+
+-- opening a key meets damage (14): locating it does; record header or key outside the body
+pub data OpeningDamaged (body key : List ℕ) : Type 0 where
+  locating-damaged : LocatingDamaged body key → OpeningDamaged body key
+  record-outside : (p : ℕ) → Leads body key p → length body < p + 8 → OpeningDamaged body key
+  key-outside : (p : ℕ) → Leads body key p → p + 8 ≤ length body → length body < firstVersion body p → OpeningDamaged body key
+
 -- of the k versions from p on, one that get visits is outside the body or of bad kind; those before it are neither, and not within the limit
 pub data VersionDamaged (body : List ℕ) (limit : Limit) : (p k : ℕ) → Type 0 where
   outside : {p k : ℕ} → length body < p + 21 → VersionDamaged body limit p (suc k)
@@ -48,12 +61,8 @@ pub data VersionDamaged (body : List ℕ) (limit : Limit) : (p k : ℕ) → Type
   later : {p k : ℕ} → p + 21 ≤ length body → badKind (kindAt body p) ≡ false → within limit (sequenceAt body p) ≡ false → VersionDamaged body limit (p + 21) k
       → VersionDamaged body limit p (suc k)
 
--- get meets damage (14): 20 or 21; a chosen direct pilot at or past n; record header or key outside the body; a version visited outside the
--- body or of bad kind; offset + length of the answer past the data
+-- get meets damage (14): opening the key does; a version visited outside the body or of bad kind; offset + length of the answer past the data
 pub data DamageMet (body : List ℕ) (size : ℕ) (key : List ℕ) (limit : Limit) : Type 0 where
-  header-damaged : (headerRefusal body ≡ 0 → ⊥) → DamageMet body size key limit
-  pilot-damaged : headerRefusal body ≡ 0 → directPast (keysIn body) (pilotOf body (hashOf (seedIn body) key)) ≡ true → DamageMet body size key limit
-  record-outside : (p : ℕ) → Leads body key p → length body < p + 8 → DamageMet body size key limit
-  key-outside : (p : ℕ) → Leads body key p → p + 8 ≤ length body → length body < firstVersion body p → DamageMet body size key limit
+  opening-damaged : OpeningDamaged body key → DamageMet body size key limit
   version-damaged : (p : ℕ) → Opens body key p → VersionDamaged body limit (firstVersion body p) (versionCount body p) → DamageMet body size key limit
   value-outside : (r : Record) → firstFor body (openOf body key) limit ≡ Found r → size < r .offset + r .length → DamageMet body size key limit

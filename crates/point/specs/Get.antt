@@ -100,6 +100,28 @@ pub record ValuePost (body bytes key : List ℕ) (limit : Limit) (lent : ℕ × 
   pub block : place .0 ≡ lent .0
   pub start : place .1 ≡ lent .1 + startOf (getOf body (length bytes) key limit)
 
+-- the paper's number of a location (0 a place, 1 nothing, 14 damage) and its value (the place)
+abbrev pub locatedNumber : Located → ℕ
+locatedNumber (located.At p) = 0
+locatedNumber located.Nothing = 1
+locatedNumber located.Damaged = 14
+
+abbrev pub locatedValues : Located → List ℕ
+locatedValues (located.At p) = p ∷ []
+locatedValues located.Nothing = []
+locatedValues located.Damaged = []
+
+-- the paper's number of an opening (0 open, 1 nothing, 14 damage) and its values (where the first version stands, how many there are)
+abbrev pub openedNumber : Opened → ℕ
+openedNumber (opened.Open v) = 0
+openedNumber opened.Nothing = 1
+openedNumber opened.Damaged = 14
+
+abbrev pub openedValues : Opened → List ℕ
+openedValues (opened.Open v) = v .first ∷ v .count ∷ []
+openedValues opened.Nothing = []
+openedValues opened.Damaged = []
+
 -- the paper's number of an answer (0 found, 1 nothing, else the refusal's) and its values (kind, sequence, offset, length)
 abbrev pub answerNumber : Answer → ℕ
 answerNumber (Found r) = 0

@@ -10,12 +10,13 @@ use Rattle.records.specs.declared.Limit.{Limit}
 use Rattle.records.specs.declared.Record.{Record}
 use Rattle.records.specs.Model.{recordsOf, lookup}
 use Rattle.point.specs.declared.Validated.the-variants.{Accepted}
-use Rattle.point.specs.declared.Answer.the-variants.{Found, Nothing, Refused}
+use Rattle.point.specs.declared.Answer.the-variants.{Found, Refused}
 use Rattle.point.specs.Layout.{keysIn}
 use Rattle.point.specs.Validate.{validateOf}
-use Rattle.point.specs.Get.{getOf, partOf, startOf, ValuePost}
+use Rattle.point.specs.Get.{getOf, partOf, startOf, ValuePost, answerNumber}
 use Rattle.point.specs.Table.{tableOf, HoldsTable, Belongs, OneBelow, answerTo}
 use Rattle.point.specs.Lookup.{Newest, NoneWithin}
+use Rattle.point.proofs.AnswerLaws.{get-cause, damage-gets, get-nothing, nothing-get}
 use Rattle.point.proofs.SlotLaws.{holds-table, slot-owner, owner-slot}
 use Rattle.point.proofs.Theorems.{get-is-lookup, get-found, get-finds, get-nothing-found, get-misses, get-never-refuses, value-is-part}
 
@@ -44,16 +45,19 @@ module _ (body : List ℕ) (size : ℕ) (ok : validateOf body size ≡ Accepted)
     pub newest-found : (r : Record) → Newest limit (recordsOf (tableOf body) key) r → getOf body size key limit ≡ Found r
     newest-found = get-finds body size ok all key limit
 
-    -- THEOREM: nothing is answered exactly where no such record stands in the list
-    pub nothing-within : getOf body size key limit ≡ Nothing → NoneWithin limit (recordsOf (tableOf body) key)
-    nothing-within = get-nothing-found body size ok all key limit
+    -- THEOREM: nothing (1) is answered exactly where no such record stands in the list
+    pub nothing-within : answerNumber (getOf body size key limit) ≡ 1 → NoneWithin limit (recordsOf (tableOf body) key)
+    nothing-within e = get-nothing-found body size ok all key limit (get-nothing body size key limit e)
 
-    pub none-nothing : NoneWithin limit (recordsOf (tableOf body) key) → getOf body size key limit ≡ Nothing
-    none-nothing = get-misses body size ok all key limit
+    pub none-nothing : NoneWithin limit (recordsOf (tableOf body) key) → answerNumber (getOf body size key limit) ≡ 1
+    none-nothing n = nothing-get body size key limit (get-misses body size ok all key limit n)
 
-    -- THEOREM: an accepted body is never met as damaged
+    -- THEOREM: an accepted body is never met as damaged (14)
     pub never-damaged : (n : ℕ) → getOf body size key limit ≡ Refused n → ⊥
     never-damaged = get-never-refuses body size ok all key limit
+
+    pub never-fourteen : answerNumber (getOf body size key limit) ≡ 14 → ⊥
+    never-fourteen e = never-damaged 14 (damage-gets body size key limit (get-cause body size key limit e))
 
 -- THEOREM: the value handed back is the found record's part of the lent data, at its place there; or the data's first zero bytes
 pub value-part : {body bytes key : List ℕ} {limit : Limit} {lent : ℕ × ℕ} {part : List ℕ} {place : ℕ × ℕ} → ValuePost body bytes key limit lent part place

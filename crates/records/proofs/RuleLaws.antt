@@ -8,7 +8,7 @@ use mathlib.Core.Bool.{Bool, true, false, not, cond}
 use lib.ListN.{length}
 use lib.Dec.{ltb}
 use borrow.Author.Tests.{ltb-true, ltb-false, eqb-false, not-false, lt-ltb, le-ltb, eq-eqb, ne-eqb}
-use Rattle.laws.specs.Refusals.{First, None, first-given, first-only, none-given, none-only}
+use Rattle.laws.specs.Refusals.{First, None, Numbered, first-given, first-only, none-given, none-only}
 use Rattle.laws.specs.Refusals.None.{none-here, none-more}
 use Rattle.laws.specs.Refusals.Numbered.{numbered-none, numbered-more}
 use Rattle.laws.specs.RefusalLaws.{orElse-stop, orElse-zero}
@@ -67,6 +67,10 @@ module _ (bytes : List ℕ) (prev p : ℕ) where
   unfolding keyRefusal
   key-given n f = first-given f
 
+  pub key-numbered : Numbered (keyCauses bytes prev p)
+  key-numbered =
+      numbered-more (zero-lt-suc 22) (numbered-more (zero-lt-suc 23) (numbered-more (zero-lt-suc 23) (numbered-more (zero-lt-suc 23) (numbered-more (zero-lt-suc 24) numbered-none))))
+
 -- what the rules of a key say of the one at p
 pub record Keyed (bytes : List ℕ) (prev p : ℕ) : Type 0 where
   pub head : p + 8 ≤ length bytes
@@ -78,11 +82,7 @@ pub record Keyed (bytes : List ℕ) (prev p : ℕ) : Type 0 where
 module _ (bytes : List ℕ) (prev p : ℕ) where
   pub keyed : keyRefusal bytes prev p ≡ 0 → Keyed bytes prev p
   unfolding keyRefusal
-  keyed e =
-      go
-      (none-only
-      (numbered-more (zero-lt-suc 22) (numbered-more (zero-lt-suc 23) (numbered-more (zero-lt-suc 23) (numbered-more (zero-lt-suc 23) (numbered-more (zero-lt-suc 24) numbered-none)))))
-      e)
+  keyed e = go (none-only (key-numbered bytes prev p) e)
     where
       go : None (keyCauses bytes prev p) → Keyed bytes prev p
       go (none-more a (none-more b (none-more c (none-more d (none-more r none-here))))) =
@@ -138,6 +138,10 @@ module _ (bytes : List ℕ) (test : DataLength) (prev p : ℕ) where
   unfolding versionRefusal
   version-given n f = first-given f
 
+  pub version-numbered : Numbered (versionCauses bytes test prev p)
+  version-numbered =
+      numbered-more (zero-lt-suc 26) (numbered-more (zero-lt-suc 27) (numbered-more (zero-lt-suc 28) (numbered-more (zero-lt-suc 28) (numbered-more (zero-lt-suc 28) (numbered-more (zero-lt-suc 28) numbered-none)))))
+
 -- what the rules of a version say of the one at p
 pub record Versioned (bytes : List ℕ) (test : DataLength) (prev p : ℕ) : Type 0 where
   pub fits : p + 21 ≤ length bytes
@@ -150,11 +154,7 @@ pub record Versioned (bytes : List ℕ) (test : DataLength) (prev p : ℕ) : Typ
 module _ (bytes : List ℕ) (test : DataLength) (prev p : ℕ) where
   pub versioned : versionRefusal bytes test prev p ≡ 0 → Versioned bytes test prev p
   unfolding versionRefusal
-  versioned e =
-      go
-      (none-only
-      (numbered-more (zero-lt-suc 26) (numbered-more (zero-lt-suc 27) (numbered-more (zero-lt-suc 28) (numbered-more (zero-lt-suc 28) (numbered-more (zero-lt-suc 28) (numbered-more (zero-lt-suc 28) numbered-none))))))
-      e)
+  versioned e = go (none-only (version-numbered bytes test prev p) e)
     where
       go : None (versionCauses bytes test prev p) → Versioned bytes test prev p
       go (none-more a (none-more b (none-more c (none-more d (none-more r (none-more f none-here)))))) =

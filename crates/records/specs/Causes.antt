@@ -1,5 +1,5 @@
 -- What stops a walk: the exact cause of each number from 23 to 30 (document 01, "Validation"), a row of tests for a key and for a version.
-use Prim.Native.Nat.{ℕ, suc, _+_}
+use Prim.Native.Nat.{ℕ, suc, _+_, _<_}
 use mathlib.Core.Path.{_≡_}
 use mathlib.Core.List.{List}
 use lib.ListN.{length}
@@ -16,7 +16,7 @@ pub data VersionsStop (bytes : List ℕ) (test : DataLength) (r : ℕ) : (prev p
 -- r is the number of the entry at p: its key's (23 to 25), or its slot's (26), or its versions'
 pub data EntryStops (slots : ℕ → ℕ) (bytes : List ℕ) (test : DataLength) (r prev p : ℕ) : Type 0 where
   by-key : First r (keyCauses bytes prev p) → EntryStops slots bytes test r prev p
-  by-slot : None (keyCauses bytes prev p) → slots p ≡ r → EntryStops slots bytes test r prev p
+  by-slot : None (keyCauses bytes prev p) → 0 < r → slots p ≡ r → EntryStops slots bytes test r prev p
   by-versions : None (keyCauses bytes prev p) → slots p ≡ 0 → VersionsStop bytes test r (firstVersion bytes p) (firstVersion bytes p) (versionCount bytes p)
       → EntryStops slots bytes test r prev p
 

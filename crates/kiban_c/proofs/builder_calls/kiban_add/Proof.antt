@@ -4,8 +4,8 @@ use mathlib.Core.Path.{sym, _∙_}
 use Rattle.words.proofs.Laws.{splice-sets}
 use Rattle.records.proofs.KindLaws.{kind-unknown, kind-known}
 use Rattle.builder.specs.declared.Added.the-variants.{Taken, Refused}
+use Rattle.builder.specs.Add.{addedValues}
 use Rattle.finish.proofs.RowLaws.{splice-none}
-use Rattle.kiban_c.specs.BuilderCalls.{addedValues}
 use Rattle.kiban_c.proofs.BuilderCallLaws.{add-short, add-stateless, add-kindless, add-passed, add-refused, add-made}
 use borrow.Author.Needs.{needs}
 use Rattle.kiban_c.proofs.builder_calls.kiban_add.Statement.{statement}

@@ -5,7 +5,8 @@ use Prim.Native.Nat.{_-_, _≤_}
 use native.Mathlib.Omega.{arith}
 use lib.ListN.{length}
 use lib.Seq.{paste, paste-zero}
-use Rattle.kiban_c.specs.FilterCalls.{askNumber, cellsAskOf}
+use Rattle.filter.specs.Asking.{askNumber}
+use Rattle.kiban_c.specs.FilterCalls.{cellsAskOf}
 use Rattle.kiban_c.proofs.FilterCallLaws.{each-length, each-next, each-whole}
 use borrow.Author.Needs.{needs}
 use Rattle.kiban_c.proofs.filter_calls.ask_each.Statement.{statement}

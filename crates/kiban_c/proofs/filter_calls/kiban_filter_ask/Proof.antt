@@ -1,6 +1,6 @@
 -- `kiban_filter_ask` meets its contract. Assumes nothing.
 use mathlib.Core.Path.{ap, _∙_}
-use Rattle.kiban_c.specs.FilterCalls.{askNumber}
+use Rattle.filter.specs.Asking.{askNumber}
 use borrow.Author.Needs.{needs}
 use Rattle.kiban_c.proofs.filter_calls.kiban_filter_ask.Statement.{statement}
 use Rattle.kiban_c.proofs.filter_calls.kiban_filter_ask.Tie as tie

@@ -3,8 +3,8 @@ use native.Mathlib.Omega.{arith}
 use mathlib.Core.Path.{sym}
 use Rattle.words.proofs.Laws.{splice-sets}
 use Rattle.filter.specs.declared.Built.the-variants.{Positive, Fuse, Refused}
+use Rattle.filter.specs.Building.{builtValues}
 use Rattle.finish.proofs.RowLaws.{splice-none}
-use Rattle.kiban_c.specs.FilterCalls.{builtValues}
 use Rattle.kiban_c.proofs.FilterCallLaws.{build-refused, build-made, cells-small}
 use borrow.Author.Needs.{needs}
 use Rattle.kiban_c.proofs.filter_calls.kiban_filter_build.Statement.{statement}
