@@ -22,7 +22,7 @@ use Rattle.builder.specs.declared.Added.{Added}
 use Rattle.builder.specs.declared.Added.the-variants as added
 use Rattle.builder.specs.declared.OffsetSet.{OffsetSet}
 use Rattle.builder.specs.declared.OffsetSet.the-variants as offset-set
-use Rattle.builder.specs.State.{fits, lastOf, roomOf}
+use Rattle.builder.specs.State.{emptyBuilder, fits, lastOf, roomOf}
 use Rattle.builder.specs.Add.{newCauses, continuedCauses, addCauses, addRefusal, nextState, nextPlace, recordOf, newEntry, appended, addOf, bufferAfterAdd, addedNumber, stateValues, addedValues, AddPost}
 use Rattle.builder.specs.SetOffset.{setCauses, setOf, bufferAfterSet, setNumber, SetPost}
 use Rattle.builder.specs.Taken.{Taken}
@@ -211,3 +211,9 @@ module _ (s : PointBuilder) (buffer : List ℕ) (place offset : ℕ) where
   -- THEOREM: two results that meet the contract coincide, the buffer included
   pub set-unique : {r₁ r₂ : OffsetSet} {after₁ after₂ : List ℕ} → SetPost s buffer place offset r₁ after₁ → SetPost s buffer place offset r₂ after₂ → (r₁ ≡ r₂) × (after₁ ≡ after₂)
   set-unique p q = (p .answer ∙ sym (q .answer), p .buffer ∙ sym (q .buffer))
+
+-- ---- the empty builder
+
+-- THEOREM: two states that meet its contract coincide
+pub empty-unique : {r s : PointBuilder} → r ≡ emptyBuilder → s ≡ emptyBuilder → r ≡ s
+empty-unique p q = p ∙ sym q

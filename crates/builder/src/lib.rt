@@ -65,7 +65,7 @@ impl PointBuilder {
     }
 
     // Whether the state and the buffer fit. head is bounded by used before anything is read there.
-    pub fn fits(self, buffer: &[u8]) -> bool
+    fn fits(self, buffer: &[u8]) -> bool
         ensures { λ r. ⌜ r ≡ fits self (now (buffer .entry)) ⌝ }
     {
         let used = self.used;

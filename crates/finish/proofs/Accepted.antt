@@ -36,12 +36,12 @@ use Rattle.construct.specs.Promised.{Whole, Pilots}
 use Rattle.construct.proofs.KeysLaws.{hashes-long}
 use Rattle.construct.proofs.Placed.{few}
 use Rattle.point.specs.declared.Validated.the-variants.{Accepted}
-use Rattle.point.specs.Layout.{magic, slotAt, seedIn, keysIn, bucketsIn, arenaIn, dimensionRefusal, headerRefusal, pilotAt, directPast, pilotOf, slotOf, slotPlace, recordOffset, fingerprintWide}
+use Rattle.layout.specs.Layout.{magic, slotAt, seedIn, keysIn, bucketsIn, arenaIn, dimensionRefusal, headerRefusal, pilotAt, directPast, pilotOf, slotOf, slotPlace, recordOffset, fingerprintWide}
 use Rattle.point.specs.Validate.{pilotsRefusal, validateOf}
 use Rattle.point.specs.Get.{getOf}
 use Rattle.point.specs.Table.{tableOf, keyPlace, keySlot, Belongs, answerTo}
 use Rattle.point.specs.Table as table
-use Rattle.point.proofs.HeaderLaws.{magic-is, header-on, passes}
+use Rattle.layout.proofs.HeaderLaws.{magic-is, header-on, passes}
 use Rattle.point.proofs.Theorems.{accepts, get-is-lookup}
 use Rattle.finish.specs.declared.Finished.the-variants.{Body}
 use Rattle.finish.specs.Body.{arenaStart, headerBytes, pilotsBytes, slotBytes, heldSlot, slotsBytes, bodyBytes, placedOf, bodyFrom, bodyOf}

@@ -5,7 +5,7 @@ use mathlib.Core.Path.{_≡_}
 use mathlib.Core.Bool.{not}
 use lib.Dec.{eqb, ltb}
 use borrow.Author.Tests.{ltb-false, eqb-true, eqb-false, not-false, lt-ltb, le-ltb, eq-eqb, ne-eqb}
-use Rattle.point.proofs.HeaderLaws.{passes}
+use Rattle.layout.proofs.HeaderLaws.{passes}
 use Rattle.finish.specs.Body.{arenaStart}
 use Rattle.finish.specs.Finish.{lengthRefusal}
 

@@ -7,7 +7,7 @@ use Rattle.mixing.specs.Mixing.{hashOf, fingerprintOf, seedOf}
 use Rattle.records.specs.Places.{entryPlace}
 use Rattle.construct.specs.Construct.{bucketsOf, Placing, constructOf}
 use Rattle.construct.specs.Keys.{keyOf, attemptHashes}
-use Rattle.point.specs.Layout.{magic, slotAt}
+use Rattle.layout.specs.Layout.{magic, slotAt}
 
 -- arena start = 32 + 4b + 12n
 unfoldable pub arenaStart : ℕ → ℕ

@@ -1,7 +1,7 @@
 // The body's bytes: header, pilots, slots, arena.
+use layout::Header;
+use layout::slot_at;
 use mixing::slot::buckets;
-use point::Header;
-use point::slot_at;
 use records::cursor;
 use words::field;
 use words::part;

@@ -1,6 +1,6 @@
 // Finish: the body of an index from the bytes of its arena.
-pub mod body;
-pub mod check;
+mod body;
+mod check;
 
 use construct::Constructed;
 use mixing::slot::buckets;

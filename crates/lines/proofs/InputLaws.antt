@@ -17,10 +17,10 @@ use Rattle.records.specs.declared.DataLength.the-variants.{Of}
 use Rattle.records.specs.Model.{tableBytes}
 use Rattle.point.specs.declared.Validated.{Validated}
 use Rattle.point.specs.declared.Validated.the-variants.{Accepted}
-use Rattle.point.specs.Layout.{arenaIn}
+use Rattle.layout.specs.Layout.{arenaIn}
 use Rattle.point.specs.Validate.{validationRefusal, verdict, validateOf, refusalNumber}
 use Rattle.point.specs.Table.{tableOf, keyPlace}
-use Rattle.point.proofs.HeaderLaws.{headed}
+use Rattle.layout.proofs.HeaderLaws.{headed}
 use Rattle.point.proofs.ValidateLaws.{passed}
 use Rattle.point.proofs.SlotLaws.{key-entered, holds-table}
 use Rattle.lines.specs.declared.Listed.{Listed}

@@ -15,7 +15,7 @@ use Rattle.records.specs.declared.Within.the-variants.{Found}
 use Rattle.records.specs.Within.{foundOf}
 use Rattle.records.specs.Places.{nextEntry, entryAt, entriesFrom, entryPlace}
 use Rattle.records.proofs.PassedLaws.{entries-count}
-use Rattle.point.specs.Layout.{keysIn, arenaIn}
+use Rattle.layout.specs.Layout.{keysIn, arenaIn}
 use Rattle.point.specs.Table.{tableOf}
 use Rattle.lines.specs.declared.Lines.{Lines}
 use Rattle.lines.specs.Shown.{newestTombstone, shown, shownOne, shownCount}

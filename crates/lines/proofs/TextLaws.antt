@@ -14,7 +14,7 @@ use Rattle.text.specs.Written.{Ends, Written}
 use Rattle.text.proofs.TextLaws.{decimal-short}
 use Rattle.records.specs.Model.{Entry}
 use Rattle.records.proofs.PassedLaws.{entries-count}
-use Rattle.point.specs.Layout.{keysIn, arenaIn}
+use Rattle.layout.specs.Layout.{keysIn, arenaIn}
 use Rattle.point.specs.Table.{tableOf}
 use Rattle.lines.specs.declared.Listed.the-variants.{Text, Refused}
 use Rattle.lines.specs.Shown.{newestTombstone, shownCount}

@@ -6,7 +6,7 @@ use lib.ListN.{length}
 use Rattle.records.specs.declared.DataLength.the-variants.{Of}
 use Rattle.records.specs.Places.{firstVersion, nextEntry, entryPlace}
 use Rattle.records.specs.Rules.{entryVersionsRefusal}
-use Rattle.point.specs.Layout.{keysIn, arenaIn}
+use Rattle.layout.specs.Layout.{keysIn, arenaIn}
 
 -- a whole entry stands at p, whose versions pass 27 to 29 for some data
 pub record Stands (body : List ℕ) (p : ℕ) : Type 0 where

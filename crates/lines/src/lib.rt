@@ -133,8 +133,8 @@ fn put_lines(out: &mut [u8], at: usize, body: &[u8], limit: u64) -> Lines
 {
     let mut end = at;
     let mut shown: u64 = 0;
-    let mut p = point::arena_in(body) as usize;
-    let mut left = point::keys_in(body);
+    let mut p = layout::arena_in(body) as usize;
+    let mut left = layout::keys_in(body);
     while 0 < left {
         let l = put_entry(out, end, body, limit, p);
         end = l.end;
@@ -180,7 +180,7 @@ fn put_table(out: &mut [u8], at: usize, body: &[u8], limit: u64, shown: u64) -> 
     requires { ⌜ Whole (now body) × (shown ≡ shownCount newestTombstone limit (tableOf (now body))) × Ends at (tableText newestTombstone limit (tableOf (now body))) ⌝ }
     ensures { λ r. ⌜ Written (now (out .entry)) at (tableText newestTombstone limit (tableOf (now (body .entry)))) (now (out .exit)) r ⌝ }
 {
-    let keys = point::keys_in(body) as u64;
+    let keys = layout::keys_in(body) as u64;
     let next = put_header(out, at, limit, keys, shown);
     let l = put_lines(out, next, body, limit);
     l.end

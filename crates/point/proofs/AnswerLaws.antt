@@ -27,12 +27,13 @@ use Rattle.point.specs.declared.Opened.{Opened}
 use Rattle.point.specs.declared.Opened.the-variants as opened
 use Rattle.point.specs.declared.Answer.{Answer}
 use Rattle.point.specs.declared.Answer.the-variants.{Found, Nothing, Refused}
-use Rattle.point.specs.Layout.{seedIn, keysIn, arenaIn, headerRefusal, pilotOf, directPast, slotPlace, recordOffset, fingerprintLow}
+use Rattle.layout.specs.Layout.{seedIn, keysIn, arenaIn, headerRefusal, pilotOf, directPast, slotPlace, recordOffset, fingerprintLow}
 use Rattle.point.specs.Get.{locateHash, locateOf, openRecordOf, openAt, openOf, firstOfAll, firstFor, answerOf, getOf, locatedNumber, locatedValues, openedNumber, openedValues, answerNumber, answerValues}
 use Rattle.point.specs.Table.{keySlot}
-use Rattle.point.specs.Causes.{Leads, Opens, LocatingDamaged, OpeningDamaged, VersionDamaged, DamageMet}
+use Rattle.point.specs.Causes.{Leads, RecordOpens, Opens, LocatingDamaged, RecordDamaged, OpeningDamaged, VersionDamaged, DamageMet}
 use Rattle.point.specs.Causes.LocatingDamaged.{header-damaged, pilot-damaged, start-outside}
-use Rattle.point.specs.Causes.OpeningDamaged.{locating-damaged, record-outside, key-outside}
+use Rattle.point.specs.Causes.RecordDamaged.{header-outside, key-outside}
+use Rattle.point.specs.Causes.OpeningDamaged.{locating-damaged, record-damaged}
 use Rattle.point.specs.Causes.VersionDamaged.{outside, bad-kind, later}
 use Rattle.point.specs.Causes.DamageMet.{opening-damaged, version-damaged, value-outside}
 use Rattle.point.proofs.GetLaws.{locate-refused, record-same, answer-past}
@@ -41,11 +42,16 @@ use Rattle.point.proofs.GetLaws.{locate-refused, record-same, answer-pa
 abbrev here : List ℕ → ℕ → Versions
 here body p = record { first = firstVersion body p; count = versionCount body p }
 
--- how locating, opening and getting end
+-- how locating, opening a record or a key, and getting end
 data Locates (body key : List ℕ) : Located → Type 0 where
   located-at : (p : ℕ) → Leads body key p → p ≤ length body → Locates body key (located.At p)
   located-none : Locates body key located.Nothing
   located-damaged : LocatingDamaged body key → Locates body key located.Damaged
+
+data RecordOpensTo (body key : List ℕ) (p : ℕ) : Opened → Type 0 where
+  record-at : RecordOpens body key p → RecordOpensTo body key p (opened.Open (here body p))
+  record-none : RecordOpensTo body key p opened.Nothing
+  record-outside : RecordDamaged body p → RecordOpensTo body key p opened.Damaged
 
 data OpensTo (body key : List ℕ) : Opened → Type 0 where
   opened-at : (p : ℕ) → Opens body key p → OpensTo body key (opened.Open (here body p))
@@ -133,25 +139,74 @@ module _ (body key : List ℕ) where
       go located-none = inr (inl refl)
       go (located-damaged d) = inr (inr refl)
 
-  -- ---- opening
+  -- ---- opening the record at a place
 
-  record-opens : (p : ℕ) → Leads body key p → OpensTo body key (openRecordOf body p key)
-  unfolding openRecordOf
-  record-opens p l = go (ltb (length body) (p + 8)) (ltb (length body) (firstVersion body p)) (sameAs (keyAt body p) key) refl refl refl
+  module _ (p : ℕ) where
+    record-opens : RecordOpensTo body key p (openRecordOf body p key)
+    unfolding openRecordOf
+    record-opens = go (ltb (length body) (p + 8)) (ltb (length body) (firstVersion body p)) (sameAs (keyAt body p) key) refl refl refl
+      where
+        go : (a b c : Bool) → ltb (length body) (p + 8) ≡ a → ltb (length body) (firstVersion body p) ≡ b → sameAs (keyAt body p) key ≡ c
+            → RecordOpensTo body key p (cond a opened.Damaged (cond b opened.Damaged (cond c (opened.Open (here body p)) opened.Nothing)))
+        go true b c qa qb qc = record-outside (header-outside (ltb-true _ _ qa))
+        go false true c qa qb qc = record-outside (key-outside (ltb-false _ _ qa) (ltb-true _ _ qb))
+        go false false true qa qb qc = record-at (record { whole = ltb-false _ _ qb; same = qc })
+        go false false false qa qb qc = record-none
+
+    outside-opened : RecordDamaged body p → openRecordOf body p key ≡ opened.Damaged
+    unfolding openRecordOf
+    outside-opened (header-outside h) = rw (lt-ltb (length body) (p + 8) h)
+    outside-opened (key-outside h q) = rw (le-ltb (length body) (p + 8) h, lt-ltb (length body) (firstVersion body p) q)
+
+    -- THEOREM: opening the record at a place gives 14 exactly where its header or its key is outside the body
+    pub record-cause : openedNumber (openRecordOf body p key) ≡ 14 → RecordDamaged body p
+    record-cause = go record-opens
+      where
+        go : {o : Opened} → RecordOpensTo body key p o → openedNumber o ≡ 14 → RecordDamaged body p
+        go (record-at d) e = absurd (omega arith)
+        go record-none e = absurd (omega arith)
+        go (record-outside d) e = d
+
+    pub cause-record : RecordDamaged body p → openedNumber (openRecordOf body p key) ≡ 14
+    cause-record d = ap openedNumber (outside-opened d)
+
+    -- THEOREM: it gives 0, where the first version stands and how many there are, exactly where the record there is the key's
+    pub record-versions : openedNumber (openRecordOf body p key) ≡ 0 → RecordOpens body key p × (openedValues (openRecordOf body p key) ≡ firstVersion body p ∷ versionCount body p ∷ [])
+    record-versions = go record-opens
+      where
+        go : {o : Opened} → RecordOpensTo body key p o → openedNumber o ≡ 0 → RecordOpens body key p × (openedValues o ≡ firstVersion body p ∷ versionCount body p ∷ [])
+        go (record-at d) e = (d, refl)
+        go record-none e = absurd (omega arith)
+        go (record-outside d) e = absurd (omega arith)
+
+    pub versions-record : RecordOpens body key p → (openedNumber (openRecordOf body p key) ≡ 0) × (openedValues (openRecordOf body p key) ≡ firstVersion body p ∷ versionCount body p ∷ [])
+    versions-record o = let e = record-same body key p (o .whole) (o .same) in (ap openedNumber e, ap openedValues e)
+
+    -- THEOREM: else 1
+    pub record-numbers : (openedNumber (openRecordOf body p key) ≡ 0) ⊎ ((openedNumber (openRecordOf body p key) ≡ 1) ⊎ (openedNumber (openRecordOf body p key) ≡ 14))
+    record-numbers = go record-opens
+      where
+        go : {o : Opened} → RecordOpensTo body key p o → (openedNumber o ≡ 0) ⊎ ((openedNumber o ≡ 1) ⊎ (openedNumber o ≡ 14))
+        go (record-at d) = inl refl
+        go record-none = inr (inl refl)
+        go (record-outside d) = inr (inr refl)
+
+  -- ---- opening a key
+
+  led-opens : (p : ℕ) → Leads body key p → OpensTo body key (openRecordOf body p key)
+  led-opens p l = go (record-opens p)
     where
-      go : (a b c : Bool) → ltb (length body) (p + 8) ≡ a → ltb (length body) (firstVersion body p) ≡ b → sameAs (keyAt body p) key ≡ c
-          → OpensTo body key (cond a opened.Damaged (cond b opened.Damaged (cond c (opened.Open (here body p)) opened.Nothing)))
-      go true b c qa qb qc = opened-damaged (record-outside p l (ltb-true _ _ qa))
-      go false true c qa qb qc = opened-damaged (key-outside p l (ltb-false _ _ qa) (ltb-true _ _ qb))
-      go false false true qa qb qc = opened-at p (record { leads = l; whole = ltb-false _ _ qb; same = qc })
-      go false false false qa qb qc = opened-none
+      go : {o : Opened} → RecordOpensTo body key p o → OpensTo body key o
+      go (record-at d) = opened-at p (record { leads = l; opens = d })
+      go record-none = opened-none
+      go (record-outside d) = opened-damaged (record-damaged p l d)
 
   opens : OpensTo body key (openOf body key)
   unfolding openOf
   opens = go locates
     where
       go : {l : Located} → Locates body key l → OpensTo body key (openAt body key l)
-      go (located-at p d h) = record-opens p d
+      go (located-at p d h) = led-opens p d
       go located-none = opened-none
       go (located-damaged d) = opened-damaged (locating-damaged d)
 
@@ -163,30 +218,21 @@ module _ (body key : List ℕ) where
   unfolding openOf
   unlocated d = rw (damage-located d)
 
-  head-outside : (p : ℕ) → length body < p + 8 → openRecordOf body p key ≡ opened.Damaged
-  unfolding openRecordOf
-  head-outside p h = rw (lt-ltb (length body) (p + 8) h)
-
-  past-head : (p : ℕ) → p + 8 ≤ length body → length body < firstVersion body p → openRecordOf body p key ≡ opened.Damaged
-  unfolding openRecordOf
-  past-head p h q = rw (le-ltb (length body) (p + 8) h, lt-ltb (length body) (firstVersion body p) q)
-
-  short-record : (p : ℕ) → Leads body key p → length body < p + 8 → openOf body key ≡ opened.Damaged
-  short-record p l h = go (ltb (length body) p) refl
+  damaged-record : (p : ℕ) → Leads body key p → RecordDamaged body p → openOf body key ≡ opened.Damaged
+  damaged-record p l d = go (ltb (length body) p) refl
     where
       go : (b : Bool) → ltb (length body) p ≡ b → openOf body key ≡ opened.Damaged
       go true q = unlocated (start-outside p l (ltb-true _ _ q))
-      go false q = open-at p (leads-at p l (ltb-false _ _ q)) ∙ head-outside p h
+      go false q = open-at p (leads-at p l (ltb-false _ _ q)) ∙ outside-opened p d
 
   damage-opened : OpeningDamaged body key → openOf body key ≡ opened.Damaged
   damage-opened (locating-damaged d) = unlocated d
-  damage-opened (record-outside p l h) = short-record p l h
-  damage-opened (key-outside p l h q) = open-at p (leads-at p l (omega arith)) ∙ past-head p h q
+  damage-opened (record-damaged p l d) = damaged-record p l d
 
   opens-at : (p : ℕ) → Opens body key p → openOf body key ≡ opened.Open (here body p)
   opens-at p o =
-      let w = o .whole in
-      open-at p (leads-at p (o .leads) (omega arith)) ∙ record-same body key p w (o .same)
+      let w = o .opens .whole in
+      open-at p (leads-at p (o .leads) (omega arith)) ∙ record-same body key p w (o .opens .same)
 
   -- THEOREM: opening gives 14 exactly where it meets damage
   pub open-cause : openedNumber (openOf body key) ≡ 14 → OpeningDamaged body key

@@ -12,7 +12,7 @@ use Rattle.laws.specs.RefusalLaws.{FirstOfTwo, two-given, two-only}
 use Rattle.laws.specs.RefusalLaws.FirstOfTwo.{by-first, by-second}
 use Rattle.records.specs.declared.DataLength.the-variants.{Of}
 use Rattle.records.proofs.CauseLaws.{walk-stops, walk-some, stops-walk}
-use Rattle.point.specs.Layout.{keysIn, bucketsIn, arenaIn, magicCauses, magicRefusal, dimensionCauses, dimensionRefusal, headerRefusal, pilotAt, directPast}
+use Rattle.layout.specs.Layout.{keysIn, bucketsIn, arenaIn, magicCauses, magicRefusal, dimensionCauses, dimensionRefusal, headerRefusal, pilotAt, directPast}
 use Rattle.point.specs.Validate.{pilotsRefusal, slotCauses, slotTest, slotRefusal, arenaRefusal, validationRefusal, validateOf, verdict, refusalNumber}
 use Rattle.point.specs.Causes.{ValidationStops}
 use Rattle.point.specs.Causes.ValidationStops.{magic-wrong, dimensions-wrong, pilot-past, arena-stops}

@@ -32,7 +32,7 @@ use Rattle.point.specs.declared.Located.{Located}
 use Rattle.point.specs.declared.Located.the-variants as located
 use Rattle.point.specs.declared.Opened.{Opened}
 use Rattle.point.specs.declared.Opened.the-variants as opened
-use Rattle.point.specs.Layout.{headerRefusal, seedIn, keysIn, arenaIn, pilotOf, directPast, slotOf, slotPlace}
+use Rattle.layout.specs.Layout.{headerRefusal, seedIn, keysIn, arenaIn, pilotOf, directPast, slotOf, slotPlace}
 use Rattle.point.specs.Get.{locateHash, locateOf, openRecordOf, openAt, openOf, firstOfAll, firstFor, answerOf, getOf, partOf, valueOf, startOf, ValuePost}
 
 -- ---- the slot: n keys, pilot g, slot s, fingerprint f, u the 16 bits read, arena start a, offset o

@@ -1,4 +1,3 @@
-pub mod HeaderLaws
 pub mod GetLaws
 pub mod ValidateLaws
 pub mod SlotLaws

@@ -20,11 +20,11 @@ use Rattle.point.specs.declared.Validated.the-variants.{Accepted}
 use Rattle.point.specs.declared.Versions.{Versions}
 use Rattle.point.specs.declared.Located.the-variants as located
 use Rattle.point.specs.declared.Opened.the-variants as opened
-use Rattle.point.specs.Layout.{seedIn, keysIn, arenaIn, slotPlace, recordOffset, fingerprintLow, fingerprintWide}
+use Rattle.layout.specs.Layout.{seedIn, keysIn, arenaIn, slotPlace, recordOffset, fingerprintLow, fingerprintWide}
 use Rattle.point.specs.Validate.{validateOf}
 use Rattle.point.specs.Get.{locateOf, openOf}
 use Rattle.point.specs.Table.{tableOf, keyPlace, keyOf, keySlot}
-use Rattle.point.proofs.HeaderLaws.{headed, slot-inside}
+use Rattle.layout.proofs.HeaderLaws.{headed, slot-inside}
 use Rattle.point.proofs.GetLaws.{locate-on, locate-other, locate-at, open-is, record-other, record-same}
 use Rattle.point.proofs.ValidateLaws.{passed}
 use Rattle.point.proofs.SlotLaws.{key-entered, key-belongs, hash-near, hash-slot, slots-apart, slot-hit}

@@ -22,10 +22,10 @@ use Rattle.records.proofs.ReadLaws.{passed-bytes, passed-rules}
 use Rattle.records.proofs.TableLaws.{table-fits}
 use Rattle.records.proofs.WriteLaws.{table-unique}
 use Rattle.point.specs.declared.Validated.the-variants.{Accepted}
-use Rattle.point.specs.Layout.{keysIn, arenaIn, pilotOf, directPast, slotOf, slotPlace, recordOffset}
+use Rattle.layout.specs.Layout.{keysIn, arenaIn, pilotOf, directPast, slotOf, slotPlace, recordOffset}
 use Rattle.point.specs.Validate.{slotRefusal, validateOf}
 use Rattle.point.specs.Table.{tableOf, keyPlace, keyOf, keySlot, HoldsTable, Belongs, OneBelow}
-use Rattle.point.proofs.HeaderLaws.{headed, slot-low}
+use Rattle.layout.proofs.HeaderLaws.{headed, slot-low}
 use Rattle.point.proofs.ValidateLaws.{passed, checked-near, slotted}
 
 -- ---- the table

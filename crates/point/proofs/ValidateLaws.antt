@@ -17,9 +17,9 @@ use Rattle.records.specs.Places.{keyAt, nextEntry}
 use Rattle.records.specs.Walk.{walkFrom}
 use Rattle.records.proofs.RuleLaws.{Entered}
 use Rattle.point.specs.declared.Validated.the-variants.{Accepted, Refused}
-use Rattle.point.specs.Layout.{headerRefusal, seedIn, keysIn, bucketsIn, arenaIn, pilotAt, pilotOf, directPast, slotOf, slotPlace, recordOffset, fingerprintWide}
+use Rattle.layout.specs.Layout.{headerRefusal, seedIn, keysIn, bucketsIn, arenaIn, pilotAt, pilotOf, directPast, slotOf, slotPlace, recordOffset, fingerprintWide}
 use Rattle.point.specs.Validate.{pilotsRefusal, slotTest, slotRefusal, arenaRefusal, validationRefusal, verdict, validateOf, Checked, Stepping}
-use Rattle.point.proofs.HeaderLaws.{passes, headed}
+use Rattle.layout.proofs.HeaderLaws.{passes, headed}
 
 -- ---- 22, a pilot at a time
 

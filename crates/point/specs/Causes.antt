@@ -16,7 +16,7 @@ use Rattle.records.specs.Model.{within}
 use Rattle.records.specs.Places.{keyAt, firstVersion, versionCount, sequenceAt, kindAt}
 use Rattle.records.specs.Rules.{badKind}
 use Rattle.records.specs.Causes.{WalkStops}
-use Rattle.point.specs.Layout.{headerRefusal, magicCauses, dimensionCauses, seedIn, keysIn, bucketsIn, arenaIn, pilotAt, pilotOf, directPast, slotPlace, recordOffset, fingerprintLow}
+use Rattle.layout.specs.Layout.{headerRefusal, magicCauses, dimensionCauses, seedIn, keysIn, bucketsIn, arenaIn, pilotAt, pilotOf, directPast, slotPlace, recordOffset, fingerprintLow}
 use Rattle.point.specs.Validate.{slotRefusal, Checked}
 use Rattle.point.specs.Get.{openOf, firstFor}
 use Rattle.point.specs.Table.{keySlot}
@@ -36,11 +36,15 @@ pub record Leads (body key : List ℕ) (p : ℕ) : Type 0 where
   pub fingerprint : fingerprintLow body (slotPlace body (keySlot body key)) ≡ fingerprintOf (hashOf (seedIn body) key)
   pub place : arenaIn body + recordOffset body (slotPlace body (keySlot body key)) ≡ p
 
--- and the record at p is inside the body up to its key, which is the key asked for
-pub record Opens (body key : List ℕ) (p : ℕ) : Type 0 where
-  pub leads : Leads body key p
+-- the record at p is inside the body up to its key, which is the key asked for
+pub record RecordOpens (body key : List ℕ) (p : ℕ) : Type 0 where
   pub whole : firstVersion body p ≤ length body
   pub same : sameAs (keyAt body p) key ≡ true
+
+-- a key's slot leads to p, where its record opens
+pub record Opens (body key : List ℕ) (p : ℕ) : Type 0 where
+  pub leads : Leads body key p
+  pub opens : RecordOpens body key p
 
 -- locating a key meets damage (14): 20 or 21; a chosen direct pilot at or past n; the record's start past the body's end
 pub data LocatingDamaged (body key : List ℕ) : Type 0 where
@@ -48,11 +52,15 @@ pub data LocatingDamaged (body key : List ℕ) : Type 0 where
   pilot-damaged : headerRefusal body ≡ 0 → directPast (keysIn body) (pilotOf body (hashOf (seedIn body) key)) ≡ true → LocatingDamaged body key
   start-outside : (p : ℕ) → Leads body key p → length body < p → LocatingDamaged body key
 
--- opening a key meets damage (14): locating it does; record header or key outside the body
+-- opening the record at p meets damage (14): record header or key outside the body
+pub data RecordDamaged (body : List ℕ) (p : ℕ) : Type 0 where
+  header-outside : length body < p + 8 → RecordDamaged body p
+  key-outside : p + 8 ≤ length body → length body < firstVersion body p → RecordDamaged body p
+
+-- opening a key meets damage (14): locating it does, or opening the record that its slot leads to
 pub data OpeningDamaged (body key : List ℕ) : Type 0 where
   locating-damaged : LocatingDamaged body key → OpeningDamaged body key
-  record-outside : (p : ℕ) → Leads body key p → length body < p + 8 → OpeningDamaged body key
-  key-outside : (p : ℕ) → Leads body key p → p + 8 ≤ length body → length body < firstVersion body p → OpeningDamaged body key
+  record-damaged : (p : ℕ) → Leads body key p → RecordDamaged body p → OpeningDamaged body key
 
 -- of the k versions from p on, one that get visits is outside the body or of bad kind; those before it are neither, and not within the limit
 pub data VersionDamaged (body : List ℕ) (limit : Limit) : (p k : ℕ) → Type 0 where

@@ -21,7 +21,7 @@ use Rattle.point.specs.declared.Opened.{Opened}
 use Rattle.point.specs.declared.Opened.the-variants as opened
 use Rattle.point.specs.declared.Answer.{Answer}
 use Rattle.point.specs.declared.Answer.the-variants.{Found, Nothing, Refused}
-use Rattle.point.specs.Layout.{headerRefusal, seedIn, keysIn, arenaIn, pilotOf, directPast, slotOf, slotPlace, recordOffset, fingerprintLow}
+use Rattle.layout.specs.Layout.{headerRefusal, seedIn, keysIn, arenaIn, pilotOf, directPast, slotOf, slotPlace, recordOffset, fingerprintLow}
 
 -- the record that the slot of a hash names: 14 a chosen direct pilot at or past n; nothing where the low 16 fingerprint bits differ;
 -- 14 a record outside the body

@@ -1,4 +1,3 @@
-pub mod Layout
 pub mod Validate
 pub mod Get
 pub mod Table

@@ -12,7 +12,7 @@ use Rattle.records.specs.Places.{keyAt, entriesFrom, entryPlace}
 use Rattle.records.specs.Tables.{TableFits, TableRules, TableInData}
 use Rattle.point.specs.declared.Answer.{Answer}
 use Rattle.point.specs.declared.Answer.the-variants.{Found, Nothing}
-use Rattle.point.specs.Layout.{seedIn, keysIn, arenaIn, slotOf, slotPlace, recordOffset, fingerprintWide}
+use Rattle.layout.specs.Layout.{seedIn, keysIn, arenaIn, slotOf, slotPlace, recordOffset, fingerprintWide}
 
 -- the table of a body
 unfoldable pub tableOf : List ℕ → List Entry

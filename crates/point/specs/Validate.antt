@@ -13,7 +13,7 @@ use Rattle.records.specs.Places.{keyAt, firstVersion}
 use Rattle.records.specs.Walk.{walkFrom}
 use Rattle.point.specs.declared.Validated.{Validated}
 use Rattle.point.specs.declared.Validated.the-variants.{Accepted, Refused}
-use Rattle.point.specs.Layout.{headerRefusal, seedIn, keysIn, bucketsIn, arenaIn, pilotAt, directPast, slotOf, slotPlace, recordOffset, fingerprintWide}
+use Rattle.layout.specs.Layout.{headerRefusal, seedIn, keysIn, bucketsIn, arenaIn, pilotAt, directPast, slotOf, slotPlace, recordOffset, fingerprintWide}
 
 -- 22 a direct pilot at or past n, among the k pilots from i on
 unfoldable pub pilotsRefusal : List ℕ → (n i : ℕ) → ℕ → ℕ

@@ -1,6 +1,12 @@
 // The reading side of the point index: validate, get, and the value of what get finds.
+use layout::Header;
+use layout::arena_in;
+use layout::buckets_in;
+use layout::header_refusal;
+use layout::keys_in;
+use layout::seed_in;
+use layout::slot_at;
 use mixing::slot::Pilot;
-use mixing::slot::buckets;
 use mixing::slot::slot_by;
 use records::DataLength;
 use records::Limit;
@@ -13,29 +19,15 @@ use words::field;
 use words::part;
 ghost use mathlib.Core.Path.{_≡_};
 ghost use mathlib.Core.Bool.{false};
-ghost use Prim.Native.Nat.{_+_, _^_, _<_, _≤_};
+ghost use Prim.Native.Nat.{_+_, _≤_};
 ghost use lib.ListN.{length};
 ghost use denote.Ref.{ptr};
-ghost use Rattle.point.specs.Layout.{magicRefusal, slotAt, dimensionRefusal, headerRefusal, seedIn, keysIn, bucketsIn, arenaIn, pilotOf, directPast, slotOf, slotPlace};
+ghost use Rattle.layout.specs.Layout.{headerRefusal, seedIn, keysIn, bucketsIn, arenaIn, pilotOf, directPast, slotOf, slotPlace};
 ghost use Rattle.point.specs.Validate.{pilotsRefusal, slotTest, slotRefusal, arenaRefusal, validationRefusal, validateOf, Checked, Reached, Stepping};
 ghost use Rattle.point.specs.Get.{locateHash, locateOf, openRecordOf, openOf, answerOf, getOf, ValuePost};
 ghost use Rattle.records.specs.declared.DataLength.the-variants.{Of};
 ghost use Rattle.records.specs.declared.Limit.the-variants.{UpTo};
 ghost use Rattle.records.specs.Rules.{entryRefusal};
-
-// The header of a body.
-pub struct Header {}
-
-impl Header {
-    // The bytes of the header.
-    pub const BYTES: usize = 32;
-
-    // The bytes of a pilot.
-    pub const PILOT: usize = 4;
-
-    // The bytes of a slot.
-    pub const SLOT: usize = 12;
-}
 
 // What validation says of a body.
 pub enum Validated {
@@ -73,97 +65,6 @@ pub enum Answer {
 impl Answer {
     // The refusal of a lookup that meets damage.
     pub const DAMAGE: u8 = 14;
-}
-
-// Of the header: the seed.
-fn seed_in(body: &[u8]) -> u64
-    requires { ⌜ 32 ≤ length (now body) ⌝ }
-    ensures { λ r. ⌜ r ≡ seedIn (now (body .entry)) ⌝ }
-{
-    field::u64_at(body, 8)
-}
-
-// The number of keys.
-pub fn keys_in(body: &[u8]) -> u32
-    requires { ⌜ 32 ≤ length (now body) ⌝ }
-    ensures { λ r. ⌜ r ≡ keysIn (now (body .entry)) ⌝ }
-{
-    field::u32_at(body, 16)
-}
-
-// The number of buckets.
-fn buckets_in(body: &[u8]) -> u32
-    requires { ⌜ 32 ≤ length (now body) ⌝ }
-    ensures { λ r. ⌜ r ≡ bucketsIn (now (body .entry)) ⌝ }
-{
-    field::u32_at(body, 20)
-}
-
-// Where the arena starts.
-pub fn arena_in(body: &[u8]) -> u64
-    requires { ⌜ 32 ≤ length (now body) ⌝ }
-    ensures { λ r. ⌜ r ≡ arenaIn (now (body .entry)) ⌝ }
-{
-    field::u64_at(body, 24)
-}
-
-// 20, or 0.
-fn magic_refusal(body: &[u8]) -> u8
-    ensures { λ r. ⌜ r ≡ magicRefusal (now (body .entry)) ⌝ }
-{
-    if body.len() < Header::BYTES {
-        return 20;
-    }
-    if part::same(&body[..8], b"KIBANPH2") {
-        return 0;
-    }
-    20
-}
-
-// Where slot i stands, behind the header and b pilots; behind the last slot the arena starts.
-pub fn slot_at(b: usize, i: usize) -> usize
-    requires { ⌜ (b < 2 ^ 32) × (i < 2 ^ 32) ⌝ }
-    ensures { λ r. ⌜ r ≡ slotAt b i ⌝ }
-{
-    Header::BYTES + Header::PILOT * b + Header::SLOT * i
-}
-
-// 21, or 0: n keys, b buckets and an arena start in a body of `size` bytes.
-fn dimension_refusal(size: u64, n: u64, b: u64, arena: u64) -> u8
-    ensures { λ r. ⌜ r ≡ dimensionRefusal size n b arena ⌝ }
-{
-    if n == 0 {
-        return 21;
-    }
-    if Pilot::DIRECT as u64 <= n {
-        return 21;
-    }
-    if b != buckets(n as usize) as u64 {
-        return 21;
-    }
-    if arena != slot_at(b as usize, n as usize) as u64 {
-        return 21;
-    }
-    if size <= arena {
-        return 21;
-    }
-    0
-}
-
-// 20 or 21, or 0: what validate and get check first.
-pub fn header_refusal(body: &[u8]) -> u8
-    ensures { λ r. ⌜ r ≡ headerRefusal (now (body .entry)) ⌝ }
-{
-    let r = magic_refusal(body);
-    if r != 0 {
-        return r;
-    }
-    dimension_refusal(
-        body.len() as u64,
-        keys_in(body) as u64,
-        buckets_in(body) as u64,
-        arena_in(body),
-    )
 }
 
 // The pilot of a hash's bucket.
@@ -378,7 +279,7 @@ fn answered(found: Within, data_length: u64) -> Answer
 }
 
 // The key's record up to a sequence, with data of a length.
-pub fn get_up_to(body: &[u8], data_length: u64, key: &[u8], most: u64) -> Answer
+fn get_up_to(body: &[u8], data_length: u64, key: &[u8], most: u64) -> Answer
     ensures { λ r. ⌜ r ≡ getOf (now (body .entry)) data_length (now (key .entry)) (UpTo most) ⌝ }
 {
     let o = open(body, key);

@@ -11,7 +11,7 @@ use Rattle.records.specs.declared.Record.{Record}
 use Rattle.records.specs.Model.{recordsOf, lookup}
 use Rattle.point.specs.declared.Validated.the-variants.{Accepted}
 use Rattle.point.specs.declared.Answer.the-variants.{Found, Refused}
-use Rattle.point.specs.Layout.{keysIn}
+use Rattle.layout.specs.Layout.{keysIn}
 use Rattle.point.specs.Validate.{validateOf}
 use Rattle.point.specs.Get.{getOf, partOf, startOf, ValuePost, answerNumber}
 use Rattle.point.specs.Table.{tableOf, HoldsTable, Belongs, OneBelow, answerTo}

@@ -11,6 +11,8 @@ pub use Rattle.finish.proofs.Answers.{finish-values}
 pub use Rattle.point.proofs.AnswerLaws.{locate-place, place-locate, locate-numbers, unlocated-values}
 -- point::Opened: 0, where the first version stands and how many there are, exactly where the key's record opens; else 1, or 14
 pub use Rattle.point.proofs.AnswerLaws.{open-record, record-open, open-numbers, unopened-values}
+-- and of the record at a place: 0 exactly where it is the key's, else 1, or 14
+pub use Rattle.point.proofs.AnswerLaws.{record-versions, versions-record, record-numbers}
 -- point::Answer: 0 and kind, sequence, offset, length, exactly for a record found; 1 exactly for nothing; else 14
 pub use Rattle.point.proofs.AnswerLaws.{get-record, record-get, get-nothing, nothing-get, get-numbers}
 -- filter::SstFilter: 0 and six zeros for the Positive layout; 0 and 1, keys, seed, segment, count, cells for the Fuse layout

@@ -30,7 +30,7 @@ use Rattle.construct.specs.Keys.{keyOf, hashesOf, attemptHashes}
 use Rattle.construct.proofs.Figures.{one-key}
 use Rattle.point.specs.declared.Answer.the-variants.{Found, Nothing}
 use Rattle.point.specs.Get.{getOf, answerNumber}
-use Rattle.point.specs.Layout.{keysIn, arenaIn}
+use Rattle.layout.specs.Layout.{keysIn, arenaIn}
 use Rattle.point.specs.Table.{tableOf, OneBelow, Belongs, answerTo}
 use Rattle.point.specs.declared.Validated.the-variants.{Accepted}
 use Rattle.point.specs.Validate.{validateOf}

@@ -22,10 +22,10 @@ use Rattle.finish.specs.declared.Finished.{Finished}
 use Rattle.finish.specs.Finish.{lengthsRefusal, finishCauses, finishRefusal, finishedNumber, outAfter, spaceAfter, FinishPost}
 use Rattle.finish.proofs.Answers.{finish-number, cause-first, cause-given}
 use Rattle.point.specs.Validate.{validateOf, refusalNumber}
-use Rattle.point.specs.Get.{locateOf, openOf, getOf, locatedNumber, openedNumber, answerNumber}
-use Rattle.point.specs.Causes.{ValidationStops, LocatingDamaged, OpeningDamaged, DamageMet}
+use Rattle.point.specs.Get.{locateOf, openRecordOf, openOf, getOf, locatedNumber, openedNumber, answerNumber}
+use Rattle.point.specs.Causes.{ValidationStops, LocatingDamaged, RecordDamaged, OpeningDamaged, DamageMet}
 use Rattle.point.proofs.CauseLaws.{validate-cause, cause-validate}
-use Rattle.point.proofs.AnswerLaws.{locate-cause, cause-locate, open-cause, cause-open, get-cause, cause-get, locate-open, open-get}
+use Rattle.point.proofs.AnswerLaws.{locate-cause, cause-locate, record-cause, cause-record, open-cause, cause-open, get-cause, cause-get, locate-open, open-get}
 use Rattle.filter.specs.declared.SstFilter.{SstFilter}
 use Rattle.filter.specs.declared.Written.{Written}
 use Rattle.filter.specs.declared.Built.{Built}
@@ -105,7 +105,7 @@ validate-refused = validate-cause
 pub refused-validate : (body : List ℕ) (size n : ℕ) → ValidationStops body size n → refusalNumber (validateOf body size) ≡ n
 refused-validate = cause-validate
 
--- ---- get, opening and locating (14)
+-- ---- get, and what it starts with: opening a key, which is locating it and opening the record there (14)
 
 pub get-refused : (body : List ℕ) (size : ℕ) (key : List ℕ) (limit : Limit) → answerNumber (getOf body size key limit) ≡ 14 → DamageMet body size key limit
 get-refused = get-cause
@@ -118,6 +118,12 @@ open-refused = open-cause
 
 pub refused-open : (body key : List ℕ) → OpeningDamaged body key → openedNumber (openOf body key) ≡ 14
 refused-open = cause-open
+
+pub open-record-refused : (body key : List ℕ) (place : ℕ) → openedNumber (openRecordOf body place key) ≡ 14 → RecordDamaged body place
+open-record-refused = record-cause
+
+pub refused-open-record : (body key : List ℕ) (place : ℕ) → RecordDamaged body place → openedNumber (openRecordOf body place key) ≡ 14
+refused-open-record = cause-record
 
 pub locate-refused : (body key : List ℕ) → locatedNumber (locateOf body key) ≡ 14 → LocatingDamaged body key
 locate-refused = locate-cause

@@ -1,5 +1,7 @@
 -- Two results that meet a public call's contract coincide, every lent byte and word included: one theorem for each call, no exception.
 
+-- PointBuilder::empty: the state
+pub use Rattle.builder.proofs.Answers.{empty-unique}
 -- PointBuilder::add: the answer with the next state, and the buffer
 pub use Rattle.builder.proofs.Answers.{add-unique}
 -- PointBuilder::set_value_offset: the answer and the buffer
@@ -8,6 +10,12 @@ pub use Rattle.builder.proofs.Answers.{set-unique}
 pub use Rattle.finish.proofs.Answers.{finish-one}
 -- validate: the answer
 pub use Rattle.point.proofs.Theorems.{validate-one}
+-- locate: the answer
+pub use Rattle.point.proofs.Theorems.{locate-one}
+-- open_record: the answer
+pub use Rattle.point.proofs.Theorems.{open-record-one}
+-- open: the answer
+pub use Rattle.point.proofs.Theorems.{open-one}
 -- get: the answer
 pub use Rattle.point.proofs.Theorems.{get-one}
 -- value: the part of the data, its bytes and its place

@@ -1,6 +1,6 @@
 -- `locate` refuses what 20 and 21 refuse, and goes on by the key's hash. Assumes nothing.
 use mathlib.Core.Path.{sym, _∙_}
-use Rattle.point.proofs.HeaderLaws.{headed}
+use Rattle.layout.proofs.HeaderLaws.{headed}
 use Rattle.point.proofs.GetLaws.{locate-refused, locate-on}
 use native.Mathlib.Omega.{arith}
 use borrow.Author.Needs.{needs}

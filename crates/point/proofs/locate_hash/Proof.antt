@@ -1,6 +1,6 @@
 -- `locate_hash` follows the hash's pilot and slot, and compares 16 bits of fingerprint, as `locateHash` says. Assumes nothing.
 use mathlib.Core.Path.{sym, _∙_}
-use Rattle.point.proofs.HeaderLaws.{headed}
+use Rattle.layout.proofs.HeaderLaws.{headed}
 use Rattle.point.proofs.GetLaws.{near-is, locate-past, locate-other, locate-out, locate-at}
 use native.Mathlib.Omega.{arith}
 use borrow.Author.Needs.{needs}

@@ -1,7 +1,7 @@
 -- `pilot_of` reads the pilot of the hash's bucket, which stands before the slots. Assumes nothing.
 use Prim.Native.Nat.{_<_}
 use Rattle.mixing.specs.Mixing.{bucketOf-lt}
-use Rattle.point.proofs.HeaderLaws.{headed, pilot-is}
+use Rattle.layout.proofs.HeaderLaws.{headed, pilot-is}
 use native.Mathlib.Omega.{arith}
 use borrow.Author.Needs.{needs}
 use Rattle.point.proofs.pilot_of.Statement.{statement}

@@ -2,9 +2,9 @@
 use Prim.Native.Nat.{_≤_, _-_}
 use mathlib.Core.Path.{_≡_, sym, ap, _∙_}
 use native.Mathlib.Nat.{sub-zero}
-use Rattle.point.specs.Layout.{keysIn, bucketsIn, pilotAt, directPast}
+use Rattle.layout.specs.Layout.{keysIn, bucketsIn, pilotAt, directPast}
 use Rattle.point.specs.Validate.{pilotsRefusal}
-use Rattle.point.proofs.HeaderLaws.{headed}
+use Rattle.layout.proofs.HeaderLaws.{headed}
 use Rattle.point.proofs.ValidateLaws.{pilots-past, pilots-next, pilots-end}
 use native.Mathlib.Omega.{arith}
 use borrow.Author.Needs.{needs}

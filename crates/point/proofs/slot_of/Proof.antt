@@ -1,7 +1,7 @@
 -- `slot_of` is the place of the slot that the hash's pilot gives it; the slot stands before the arena. Assumes nothing.
 use native.Mathlib.Omega.{arith}
 use borrow.Author.Needs.{needs}
-use Rattle.point.proofs.HeaderLaws.{headed, slot-is, slot-stands, slot-low, slot-inside}
+use Rattle.layout.proofs.HeaderLaws.{headed, slot-is, slot-stands, slot-low, slot-inside}
 use Rattle.point.proofs.slot_of.Statement.{statement}
 use Rattle.point.proofs.slot_of.Tie as tie
 

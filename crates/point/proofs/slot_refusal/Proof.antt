@@ -1,7 +1,7 @@
 -- `slot_refusal` tests the slot of the key that stands at `p`. Assumes nothing.
 use native.Mathlib.Omega.{arith}
 use borrow.Author.Needs.{needs}
-use Rattle.point.proofs.HeaderLaws.{headed}
+use Rattle.layout.proofs.HeaderLaws.{headed}
 use Rattle.point.proofs.ValidateLaws.{checked-near, slot-of-key}
 use Rattle.point.proofs.slot_refusal.Statement.{statement}
 use Rattle.point.proofs.slot_refusal.Tie as tie

@@ -1,6 +1,6 @@
 -- `slot_test` is 26 or 0, by the slot's offset and its 32 bits of fingerprint. Assumes nothing.
 use mathlib.Core.Path.{sym}
-use Rattle.point.proofs.HeaderLaws.{headed}
+use Rattle.layout.proofs.HeaderLaws.{headed}
 use Rattle.point.proofs.ValidateLaws.{slot-elsewhere, slot-differs, slot-right}
 use native.Mathlib.Omega.{arith}
 use borrow.Author.Needs.{needs}

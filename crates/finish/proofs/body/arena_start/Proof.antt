@@ -4,7 +4,7 @@ use Prim.Native.Nat.{ℕ}
 use native.Mathlib.Omega.{arith}
 use borrow.Author.Needs.{needs}
 use Rattle.mixing.specs.Slots.{few-buckets}
-use Rattle.point.specs.Layout.{slotAt}
+use Rattle.layout.specs.Layout.{slotAt}
 use Rattle.finish.specs.Body.{arenaStart}
 use Rattle.finish.proofs.body.arena_start.Statement.{statement}
 use Rattle.finish.proofs.body.arena_start.Tie as tie

@@ -13,7 +13,7 @@ use Rattle.words.specs.Field.{le}
 use Rattle.words.specs.Part.{sameAs}
 use Rattle.mixing.specs.Mixing.{bucketOf, positionOf, positionOf-lt}
 use Rattle.mixing.specs.Slots.{bucketsOf, direct, slotBy, some-buckets}
-use Rattle.point.specs.Layout.{magic, keysIn, bucketsIn, arenaIn, magicRefusal, dimensionRefusal, headerRefusal, pilotOf, slotAt, directPast, slotOf, slotPlace}
+use Rattle.layout.specs.Layout.{magic, keysIn, bucketsIn, arenaIn, magicRefusal, dimensionRefusal, headerRefusal, pilotOf, slotAt, directPast, slotOf, slotPlace}
 
 -- a test that refuses, and did not
 pub passes : (t : Bool) (r x : ℕ) → cond t (suc r) x ≡ 0 → (t ≡ false) × (x ≡ 0)

@@ -3,9 +3,9 @@ use native.Mathlib.Omega.{arith}
 use borrow.Author.Needs.{needs}
 use borrow.Author.Tests.{le-leb, lt-leb, eq-eqb, ne-eqb}
 use Rattle.mixing.specs.Slots.{few-buckets}
-use Rattle.point.specs.Layout.{dimensionRefusal}
-use Rattle.point.proofs.dimension_refusal.Statement.{statement}
-use Rattle.point.proofs.dimension_refusal.Tie as tie
+use Rattle.layout.specs.Layout.{dimensionRefusal}
+use Rattle.layout.proofs.dimension_refusal.Statement.{statement}
+use Rattle.layout.proofs.dimension_refusal.Tie as tie
 
 returns : tie.Need-returns
 unfolding dimensionRefusal

@@ -1,10 +1,10 @@
 -- `header_refusal` is the first of 20 and 21. Assumes nothing.
 use mathlib.Core.Path.{sym, _∙_}
-use Rattle.point.proofs.HeaderLaws.{magic-long, header-stop, header-on}
+use Rattle.layout.proofs.HeaderLaws.{magic-long, header-stop, header-on}
 use native.Mathlib.Omega.{arith}
 use borrow.Author.Needs.{needs}
-use Rattle.point.proofs.header_refusal.Statement.{statement}
-use Rattle.point.proofs.header_refusal.Tie as tie
+use Rattle.layout.proofs.header_refusal.Statement.{statement}
+use Rattle.layout.proofs.header_refusal.Tie as tie
 
 magic-refusal-requires : tie.Need-magic-refusal-requires
 magic-refusal-requires c κs = search needs

@@ -1,11 +1,11 @@
 -- `magic_refusal` is 20 or 0 by its two tests. Assumes nothing.
 use mathlib.Core.Path.{sym, _∙_}
 use lib.Seq.{length-take-le}
-use Rattle.point.proofs.HeaderLaws.{magic-short, magic-is}
+use Rattle.layout.proofs.HeaderLaws.{magic-short, magic-is}
 use native.Mathlib.Omega.{arith}
 use borrow.Author.Needs.{needs}
-use Rattle.point.proofs.magic_refusal.Statement.{statement}
-use Rattle.point.proofs.magic_refusal.Tie as tie
+use Rattle.layout.proofs.magic_refusal.Statement.{statement}
+use Rattle.layout.proofs.magic_refusal.Tie as tie
 
 returns : tie.Need-returns
 returns c = sym (magic-short _ (c .if1 .taken))
