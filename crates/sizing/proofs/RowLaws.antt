@@ -3,10 +3,11 @@
 use mathlib.Core.Path.{_≡_, refl, sym, _∙_, subst}
 use mathlib.Core.Bool.{Bool, true, false, _&&_, and-eq-true-iff, false≢true}
 use mathlib.Core.List.{List, [], _∷_}
-use Prim.Native.Nat.{ℕ, suc, _+_, _≤_, _<_}
+use Prim.Native.Nat.{ℕ, zero, suc, _+_, _≤_, _<_}
 use native.Mathlib.Nat.{add-zero, suc-add, add-suc}
+use native.Mathlib.Omega.{arith}
 use lib.Dec.{leb}
-use lib.ListN.{getD}
+use lib.ListN.{length, getD}
 use borrow.Author.Tests.{leb-true, leb-false}
 use Rattle.sizing.specs.Sizing.{upTo}
 use Rattle.sizing.proofs.SearchLaws.{upTo-yes, upTo-no}
@@ -17,6 +18,19 @@ walk test end i f [] [] = false
 walk test end i f [] (s ∷ ss) = test i f end s
 walk test end i f (g ∷ fs) [] = false
 walk test end i f (g ∷ fs) (s ∷ ss) = test i f g s && walk test end (suc i) g fs ss
+
+-- its test at row j, of those from i on
+pub walk-row : (test : ℕ → ℕ → ℕ → ℕ → Bool) (end i f : ℕ) (fs ss : List ℕ) → walk test end i f fs ss ≡ true → (j : ℕ) → j < length (f ∷ fs)
+    → test (i + j) (getD (f ∷ fs) j 0) (getD (f ∷ fs) (suc j) end) (getD ss j 0) ≡ true
+unfolding walk
+walk-row test end i f [] [] t j l = absurd (false≢true t)
+walk-row test end i f [] (s ∷ ss) t zero l = rw (add-zero i) t
+walk-row test end i f [] (s ∷ ss) t (suc j) l = absurd (omega arith)
+walk-row test end i f (g ∷ fs) [] t j l = absurd (false≢true t)
+walk-row test end i f (g ∷ fs) (s ∷ ss) t zero l = rw (add-zero i) (and-eq-true-iff (test i f g s) (walk test end (suc i) g fs ss) .0 t .0)
+walk-row test end i f (g ∷ fs) (s ∷ ss) t (suc j) l =
+    subst (λ (k : ℕ). test k (getD (g ∷ fs) j 0) (getD (g ∷ fs) (suc j) end) (getD ss j 0) ≡ true) (suc-add i j ∙ sym (add-suc i j))
+    (walk-row test end (suc i) g fs ss (and-eq-true-iff (test i f g s) (walk test end (suc i) g fs ss) .0 t .1) j (omega arith))
 
 -- the row that n lies in, with its test
 pub record At (test : ℕ → ℕ → ℕ → ℕ → Bool) (n i s : ℕ) : Type 0 where

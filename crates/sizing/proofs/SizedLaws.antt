@@ -14,9 +14,9 @@ use Rattle.fuse.specs.Positions.{cellsIn, Usable}
 use Rattle.fuse.specs.Layout.{Accepted}
 use Rattle.sizing.specs.declared.Plan.the-variants.{Positive, Fuse}
 use Rattle.sizing.specs.Table.{mostHashes, firsts, segments}
-use Rattle.sizing.specs.Sizing.{rule, greatest, exponentOf, segmentOf, upTo, segmentsOf, cellsOf, sizesOf, planOf, rises, risesFrom}
+use Rattle.sizing.specs.Sizing.{rule, greatest, exponentOf, segmentOf, upTo, segmentsOf, cellsOf, sizesOf, planOf, lastOfRow, RowRule, rises, risesFrom}
 use Rattle.sizing.proofs.SearchLaws.{upTo-yes}
-use Rattle.sizing.proofs.RowLaws.{walk, row}
+use Rattle.sizing.proofs.RowLaws.{walk, walk-row, row}
 use Rattle.sizing.proofs.ExponentLaws.{exponent-mono, segment-most, segment-power}
 
 -- ---- the rule, over the whole table
@@ -50,6 +50,29 @@ rowTest i f g s = eqb (exponentOf f) (exponentOf (g - 1)) && leb (43 * (g - 1)) 
 rows-right : walk rowTest (mostHashes + 1) 0 1 (drop 1 firsts) segments ≡ true
 unfolding walk rowTest firsts segments exponentOf greatest rule
 rows-right = refl
+
+-- THEOREM: the rule holds at each row
+pub row-rule : (j : ℕ) → j < length firsts → RowRule j
+unfolding lastOfRow segmentOf countTest rowTest
+row-rule j l =
+    let f : ℕ = getD firsts j 0 in
+    let g : ℕ = getD firsts (suc j) (mostHashes + 1) in
+    let s : ℕ = getD segments j 0 in
+    let low : j < length (1 ∷ drop 1 firsts) = subst (λ (x : List ℕ). j < length x) firsts-from l in
+    let t : rowTest j f g s ≡ true =
+    subst (λ (x : List ℕ). rowTest j (getD x j 0) (getD x (suc j) (mostHashes + 1)) s ≡ true) (sym firsts-from)
+    (walk-row rowTest (mostHashes + 1) 0 1 (drop 1 firsts) segments rows-right j low) in
+    let c : countTest j f (getD firsts (suc j) (2 ^ 64)) s ≡ true =
+    subst (λ (x : List ℕ). countTest j (getD x j 0) (getD x (suc j) (2 ^ 64)) s ≡ true) (sym firsts-from)
+    (walk-row countTest (2 ^ 64) 0 1 (drop 1 firsts) segments counts-right j low) in
+    let p = and-eq-true-iff (eqb (exponentOf f) (exponentOf (g - 1))) (leb (43 * (g - 1)) (40 * (s * 2 ^ exponentOf f))) .0 t in
+    let e : exponentOf f ≡ exponentOf (g - 1) = eqb-true _ _ (p .0) in
+    let room : 43 * (g - 1) ≤ 40 * (s * 2 ^ exponentOf f) = leb-true _ _ (p .1) in
+    record {
+      one = ap (λ (k : ℕ). 2 ^ k) e;
+      four = leb-true 4 s (and-eq-true-iff (leb 4 s) (leb s 16383) .0 c .0);
+      enough = rw e at room;
+    }
 
 -- ---- carried to each n
 
@@ -91,45 +114,27 @@ module _ (n : ℕ) (l : 1 ≤ n) (h : n < 2 ^ 64) where
         small = subst (λ (x : ℕ). x < 2 ^ 32) (sym cells-of) cells-small;
       }
 
--- the row of n, among the tested: its segment is that of n
-pub record Within (n : ℕ) : Type 0 where
-  pub first : ℕ
-  pub last : ℕ
-  pub from : first ≤ n
-  pub to : n ≤ last
-  pub one : segmentOf first ≡ segmentOf n
-  pub room : 43 * last ≤ 40 * cellsOf n
-
-within-row : (n f g s : ℕ) → f ≤ n → n < g → s ≡ segmentsOf n → exponentOf f ≡ exponentOf (g - 1) → 43 * (g - 1) ≤ 40 * (s * 2 ^ exponentOf f) → Within n
+-- the cells of n, in a row that has its exponent and room at its last number
+row-room : (n f g s : ℕ) → f ≤ n → n < g → s ≡ segmentsOf n → exponentOf f ≡ exponentOf (g - 1) → 43 * (g - 1) ≤ 40 * (s * 2 ^ exponentOf f) → 43 * n ≤ 40 * cellsOf n
 unfolding cellsOf segmentOf
-within-row n f g s a b es one room =
+row-room n f g s a b es one room =
     let x = exponent-mono f n a in
     let y = exponent-mono n (g - 1) (omega arith) in
     let e : exponentOf f ≡ exponentOf n = omega arith in
-    record {
-      first = f;
-      last = g - 1;
-      from = a;
-      to = omega arith;
-      one = ap (λ (k : ℕ). 2 ^ k) e;
-      room = rw (es, e) at room;
-    }
+    let q : 43 * (g - 1) ≤ 40 * (segmentsOf n * 2 ^ exponentOf n) = rw (es, e) at room in
+    omega arith
 
 module _ (n : ℕ) (l : 1 ≤ n) (h : n ≤ mostHashes) where
-  -- the row that n lies in has one segment, and at its last n, 40 × cells ≥ 43 × n
-  pub row-rule : Within n
+  -- THEOREM: 40 × cells ≥ 43 × n, and the sizes for n hashes have so many cells
+  pub cells-enough : 43 * n ≤ 40 * cellsOf n
   unfolding rowTest
-  row-rule =
+  cells-enough =
       let s : ℕ = getD segments (upTo (drop 1 firsts) n) 0 in
       let r = row rowTest (mostHashes + 1) 0 1 (drop 1 firsts) segments rows-right n l (omega arith) in
       let f : ℕ = r .first in
       let g : ℕ = r .next in
       let p = and-eq-true-iff (eqb (exponentOf f) (exponentOf (g - 1))) (leb (43 * (g - 1)) (40 * (s * 2 ^ exponentOf f))) .0 (r .passes) in
-      within-row n f g s (r .from) (r .below) (sym (row-segments n l)) (eqb-true _ _ (p .0)) (leb-true _ _ (p .1))
-
-  -- so 40 × cells ≥ 43 × n, and the sizes for n hashes have so many cells
-  pub cells-enough : 43 * n ≤ 40 * cellsOf n
-  cells-enough = let r = row-rule in omega (arith, r .room, r .to)
+      row-room n f g s (r .from) (r .below) (sym (row-segments n l)) (eqb-true _ _ (p .0)) (leb-true _ _ (p .1))
 
   pub sizes-enough : 43 * n ≤ 40 * cellsIn (segmentOf n) (segmentsOf n - 3)
   sizes-enough = omega (arith, cells-enough, cells-of n l (omega arith))

@@ -1,13 +1,14 @@
 -- The sizes of a filter for n hashes, after document 01, "Filter sizing".
 use mathlib.Core.Bool.{Bool, true, cond, _&&_}
 use mathlib.Core.List.{List, [], _∷_}
-use Prim.Native.Nat.{ℕ, zero, suc, _+_, _-_, _*_, _^_, max}
+use mathlib.Core.Path.{_≡_}
+use Prim.Native.Nat.{ℕ, zero, suc, _+_, _-_, _*_, _^_, _≤_, max}
 use lib.Dec.{leb, ltb, eqb}
 use lib.ListN.{getD}
 use Rattle.fuse.specs.declared.Sizes.{Sizes}
 use Rattle.sizing.specs.declared.Plan.{Plan}
 use Rattle.sizing.specs.declared.Plan.the-variants.{Positive, Fuse}
-use Rattle.sizing.specs.Table.{firsts, segments}
+use Rattle.sizing.specs.Table.{mostHashes, firsts, segments}
 
 -- the power rule: 291^(2k+1) ≤ m² × 100^(2k+1)
 unfoldable pub rule : (k m : ℕ) → Bool
@@ -50,6 +51,16 @@ sizesOf n = record { keys = n; seed = 0; segment = segmentOf n; count = segments
 -- Positive at once for no hashes, or the sizes
 unfoldable pub planOf : ℕ → Plan
 planOf n = cond (eqb n 0) Positive (Fuse (sizesOf n))
+
+-- a row runs to the next: its last n, and at the end of the table the most hashes
+unfoldable pub lastOfRow : ℕ → ℕ
+lastOfRow j = getD firsts (suc j) (mostHashes + 1) - 1
+
+-- the rule over the table, at row j: it starts where the segment changes, so it has one; segments are at least 4; at its last n, 40 × cells ≥ 43 × n
+pub record RowRule (j : ℕ) : Type 0 where
+  pub one : segmentOf (getD firsts j 0) ≡ segmentOf (lastOfRow j)
+  pub four : 4 ≤ getD segments j 0
+  pub enough : 43 * lastOfRow j ≤ 40 * (getD segments j 0 * segmentOf (lastOfRow j))
 
 -- each number of a table is greater than the one before
 unfoldable pub risesFrom : ℕ → List ℕ → Bool
