@@ -14,15 +14,16 @@ use Rattle.words.proofs.Laws.{AllBytes, bytes-drop, le-lt}
 use Rattle.text.specs.Written.{Ends}
 use Rattle.text.proofs.TextLaws.{decimal-short}
 use Rattle.records.specs.declared.DataLength.the-variants.{Of}
-use Rattle.records.specs.Model.{tableBytes}
+use Rattle.records.specs.Model.{tableBytes, Rises}
+use Rattle.records.proofs.ReadLaws.{passed-rise}
 use Rattle.point.specs.declared.Validated.{Validated}
 use Rattle.point.specs.declared.Validated.the-variants.{Accepted}
-use Rattle.layout.specs.Layout.{arenaIn}
+use Rattle.layout.specs.Layout.{keysIn, arenaIn}
 use Rattle.point.specs.Validate.{validationRefusal, verdict, validateOf, refusalNumber}
 use Rattle.point.specs.Table.{tableOf, keyPlace}
 use Rattle.layout.proofs.HeaderLaws.{headed}
 use Rattle.point.proofs.ValidateLaws.{passed}
-use Rattle.point.proofs.SlotLaws.{key-entered, holds-table}
+use Rattle.point.proofs.SlotLaws.{keys-passed, key-entered, holds-table}
 use Rattle.lines.specs.declared.Listed.{Listed}
 use Rattle.lines.specs.Shown.{Rule, newestTombstone}
 use Rattle.lines.specs.Listing.{tableText, refusedText, limitIn, dataLengthIn, bodyIn, sizeRefusal, listingRefusal, textBy, textOf, Lists, Listing}
@@ -75,7 +76,7 @@ refused-by : (rule : Rule) (input : List ℕ) (r : ℕ) → (r ≡ 0 → ⊥) �
 refused-by rule input zero n = absurd (n refl)
 refused-by rule input (suc r) n = refl
 
-text-refused : (rule : Rule) (input : List ℕ) (r : ℕ) → r ≡ listingRefusal input → (r ≡ 0 → ⊥) → textOf rule input ≡ refusedText r
+pub text-refused : (rule : Rule) (input : List ℕ) (r : ℕ) → r ≡ listingRefusal input → (r ≡ 0 → ⊥) → textOf rule input ≡ refusedText r
 unfolding textOf
 text-refused rule input r e n = ap (textBy rule input) (sym e) ∙ refused-by rule input r n
 
@@ -95,6 +96,11 @@ accepted-whole body size ok =
       arena = omega arith;
       all = record { each = λ i l. let k = key-entered body size ok i l .rules in record { size = size; whole = k .key .whole; next = k .next; versions = k .versions } };
     }
+
+-- the keys of an accepted body rise
+pub accepted-rises : (body : List ℕ) (size : ℕ) → validateOf body size ≡ Accepted → Rises (tableOf body)
+unfolding tableOf
+accepted-rises body size ok = passed-rise (arenaIn body) (arenaIn body) (keysIn body) (keys-passed body size ok)
 
 pub taken-whole : {input : List ℕ} → Taken input → Whole (take (length input - 16) (drop 16 input))
 taken-whole {input} t = rw (part-to-end input 16) (accepted-whole (bodyIn input) (dataLengthIn input) (t .ok))

@@ -3,6 +3,7 @@ pub mod LinesLaws
 pub mod TextLaws
 pub mod RoomLaws
 pub mod InputLaws
+pub mod CauseLaws
 pub mod Theorems
 pub mod CountLaws
 pub mod Figures

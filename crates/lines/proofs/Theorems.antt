@@ -3,7 +3,7 @@
 use Prim.Native.Nat.{ℕ, _+_, _<_, _≤_}
 use native.Mathlib.Nat.{zero-add}
 use native.Mathlib.Omega.{arith}
-use mathlib.Core.Path.{_≡_, refl, sym, ap, _∙_}
+use mathlib.Core.Path.{_≡_, refl, sym, ap, _∙_, subst}
 use mathlib.Core.Bool.{Bool, true, false, cond}
 use mathlib.Core.List.{List, [], _∷_, _++_, append-nil, List·Memᴰ}
 use mathlib.Core.List.List·Memᴰ.{List·Memᴰ·head, List·Memᴰ·tail}
@@ -13,8 +13,8 @@ use borrow.Author.Tests.{leb-false, le-leb, lt-leb}
 use lib.Dec.{leb}
 use Rattle.words.specs.Field.{splice}
 use Rattle.words.specs.declared.part.Order.the-variants.{Less}
-use Rattle.words.specs.Part.{orderOf}
-use Rattle.words.proofs.Ordered.{same-self, order-apart, order-trans}
+use Rattle.words.specs.Part.{orderOf, sameAs}
+use Rattle.words.proofs.Ordered.{same-self, same-equal, order-apart, order-trans}
 use Rattle.records.specs.declared.Limit.{Limit}
 use Rattle.records.specs.declared.Limit.the-variants.{None, UpTo}
 use Rattle.records.specs.declared.Record.{Record}
@@ -60,6 +60,82 @@ module _ (t : List Entry) (rises : Rises t) (e : Entry) (among : List·Memᴰ e 
   -- THEOREM: and every such key is shown
   pub shown-all : (r : Record) → tombstoneIn (lookup t (e .key) None) ≡ false → lookup t (e .key) (UpTo limit) ≡ some r → shown newestTombstone limit e ≡ some r
   shown-all r p q = shown-is ∙ rw p q
+
+-- ---- by the table's lookups
+
+-- an entry of a table that shows s
+record ShownBy (rule : Rule) (limit : ℕ) (t : List Entry) (s : Shows) : Type 0 where
+  entry : Entry
+  among : List·Memᴰ entry t
+  key : entry .key ≡ s .key
+  shows : shown rule limit entry ≡ some (s .version)
+
+shown-by : (rule : Rule) (limit : ℕ) (t : List Entry) (s : Shows) → List·Memᴰ s (shownOf rule limit t) → ShownBy rule limit t s
+unfolding shownOf
+shown-by rule limit (e ∷ es) s m = go (shown rule limit e) refl m (shown-by rule limit es s)
+  where
+    behind : ShownBy rule limit es s → ShownBy rule limit (e ∷ es) s
+    behind b = record { entry = b .entry; among = List·Memᴰ·tail (b .among); key = b .key; shows = b .shows }
+
+    go : (o : Option Record) → shown rule limit e ≡ o → List·Memᴰ s (showsFor (e .key) o (shownOf rule limit es))
+        → (List·Memᴰ s (shownOf rule limit es) → ShownBy rule limit es s) → ShownBy rule limit (e ∷ es) s
+    go none q n rest = behind (rest n)
+    go (some r) q (List·Memᴰ·head p) rest =
+        record {
+          entry = e;
+          among = List·Memᴰ·head refl;
+          key = sym (ap (λ (x : Shows). x .key) p);
+          shows = q ∙ sym (ap (λ (x : Shows). some (x .version)) p);
+        }
+    go (some r) q (List·Memᴰ·tail n) rest = behind (rest n)
+
+by-shown : (rule : Rule) (limit : ℕ) (t : List Entry) (e : Entry) (r : Record) → List·Memᴰ e t → shown rule limit e ≡ some r
+    → List·Memᴰ (record { key = e .key; version = r }) (shownOf rule limit t)
+unfolding shownOf
+by-shown rule limit (x ∷ xs) e r (List·Memᴰ·head q) h =
+    subst (λ (o : Option Record). List·Memᴰ (record { key = e .key; version = r }) (showsFor (x .key) o (shownOf rule limit xs)))
+    (sym h ∙ ap (shown rule limit) q)
+    (List·Memᴰ·head (ap (λ (y : Entry). record { key = y .key; version = r }) q))
+by-shown rule limit (x ∷ xs) e r (List·Memᴰ·tail m) h = go (shown rule limit x) (by-shown rule limit xs e r m h)
+  where
+    go : (o : Option Record) → List·Memᴰ (record { key = e .key; version = r }) (shownOf rule limit xs)
+        → List·Memᴰ (record { key = e .key; version = r }) (showsFor (x .key) o (shownOf rule limit xs))
+    go none n = n
+    go (some v) n = List·Memᴰ·tail n
+
+-- a key that has a record has an entry
+record EntryOf (t : List Entry) (key : List ℕ) : Type 0 where
+  entry : Entry
+  among : List·Memᴰ entry t
+  same : entry .key ≡ key
+
+entry-of : (t : List Entry) (key : List ℕ) (limit : Limit) (r : Record) → lookup t key limit ≡ some r → EntryOf t key
+unfolding lookup recordsOf greatest
+entry-of [] key limit r e = absurd (let z : _≡_ {A = ℕ} 0 1 = cc in omega arith)
+entry-of (x ∷ xs) key limit r e = go (sameAs (x .key) key) refl e (entry-of xs key limit r)
+  where
+    go : (b : Bool) → sameAs (x .key) key ≡ b → greatest limit (cond b (x .versions ++ recordsOf xs key) (recordsOf xs key)) ≡ some r
+        → (greatest limit (recordsOf xs key) ≡ some r → EntryOf xs key) → EntryOf (x ∷ xs) key
+    go true q f rest = record { entry = x; among = List·Memᴰ·head refl; same = same-equal (x .key) key q }
+    go false q f rest = let b = rest f in record { entry = b .entry; among = List·Memᴰ·tail (b .among); same = b .same }
+
+module _ (t : List Entry) (rises : Rises t) (limit : ℕ) where
+  -- THEOREM: a line stands only for a key whose newest record is no tombstone, and shows its lookup under the limit
+  pub line-only : (s : Shows) → List·Memᴰ s (shownOf newestTombstone limit t)
+      → (tombstoneIn (lookup t (s .key) None) ≡ false) × (lookup t (s .key) (UpTo limit) ≡ some (s .version))
+  line-only s m =
+      let b = shown-by newestTombstone limit t s m in
+      subst (λ (k : List ℕ). (tombstoneIn (lookup t k None) ≡ false) × (lookup t k (UpTo limit) ≡ some (s .version))) (b .key)
+      (shown-only t rises (b .entry) (b .among) limit (s .version) (b .shows))
+
+  -- THEOREM: and for every such key
+  pub line-all : (key : List ℕ) (r : Record) → tombstoneIn (lookup t key None) ≡ false → lookup t key (UpTo limit) ≡ some r
+      → List·Memᴰ (record { key = key; version = r }) (shownOf newestTombstone limit t)
+  line-all key r p q =
+      let o = entry-of t key (UpTo limit) r q in
+      subst (λ (k : List ℕ). List·Memᴰ (record { key = k; version = r }) (shownOf newestTombstone limit t)) (o .same)
+      (by-shown newestTombstone limit t (o .entry) r (o .among)
+      (shown-all t rises (o .entry) (o .among) limit r (rw (o .same) p) (rw (o .same) q)))
 
 -- ---- the lines
 

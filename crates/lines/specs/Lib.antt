@@ -1,4 +1,5 @@
 pub mod Shown
 pub mod Listing
+pub mod Causes
 pub mod Needs
 pub mod Found

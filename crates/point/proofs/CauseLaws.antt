@@ -1,16 +1,23 @@
--- Validation's numbers, 20 to 30, are given exactly for their causes. Assumes nothing.
+-- Validation's numbers are given exactly for their causes, and are 20 to 30. Assumes nothing.
 use Prim.Native.Nat.{ℕ, zero, suc, _+_, _<_, _≤_}
 use native.Mathlib.Omega.{arith}
 use mathlib.Core.Path.{_≡_, refl, sym, ap, _∙_}
-use mathlib.Core.List.{List}
-use mathlib.Core.Bool.{Bool, true, false, cond, true≢false}
-use lib.Dec.{lit<}
+use mathlib.Core.List.{List, [], _∷_}
+use mathlib.Core.Bool.{Bool, true, false, cond, _&&_, and-eq-true-iff, true≢false}
+use lib.Dec.{leb, lit<}
 use lib.ListN.{length}
-use Rattle.laws.specs.Refusals.{First, None, Numbered, orElse, first-given, first-only, first-positive, none-given, none-only}
+use borrow.Author.Tests.{leb-true}
+use Rattle.laws.specs.Refusals.{Cause, First, here, later, None, Numbered, orElse, first-given, first-only, first-positive, none-given, none-only}
 use Rattle.laws.specs.Refusals.Numbered.{numbered-none, numbered-more}
 use Rattle.laws.specs.RefusalLaws.{FirstOfTwo, two-given, two-only}
 use Rattle.laws.specs.RefusalLaws.FirstOfTwo.{by-first, by-second}
+use Rattle.records.specs.declared.DataLength.{DataLength}
 use Rattle.records.specs.declared.DataLength.the-variants.{Of}
+use Rattle.records.specs.Rules.{keyCauses, versionCauses}
+use Rattle.records.specs.Causes.{VersionsStop, EntryStops, WalkStops}
+use Rattle.records.specs.Causes.VersionsStop.{version-here, version-later}
+use Rattle.records.specs.Causes.EntryStops.{by-key, by-slot, by-versions}
+use Rattle.records.specs.Causes.WalkStops.{entry-here, entry-later, left-over}
 use Rattle.records.proofs.CauseLaws.{walk-stops, walk-some, stops-walk}
 use Rattle.layout.specs.Layout.{keysIn, bucketsIn, arenaIn, magicCauses, magicRefusal, dimensionCauses, dimensionRefusal, headerRefusal, pilotAt, directPast}
 use Rattle.point.specs.Validate.{pilotsRefusal, slotCauses, slotTest, slotRefusal, arenaRefusal, validationRefusal, validateOf, verdict, refusalNumber}
@@ -139,3 +146,44 @@ module _ (body : List ℕ) (size : ℕ) where
   -- THEOREM: and wherever that cause stands
   pub cause-validate : (r : ℕ) → ValidationStops body size r → refusalNumber (validateOf body size) ≡ r
   cause-validate r s = validate-number ∙ stops-refusal s
+
+-- ---- there is no other number
+
+-- every number of a row is from 20 to 30
+between : List Cause → Bool
+between [] = true
+between (c ∷ cs) = (leb 20 (c .number) && leb (c .number) 30) && between cs
+
+first-between : (cs : List Cause) (n : ℕ) → between cs ≡ true → First n cs → (20 ≤ n) × (n ≤ 30)
+unfolding between
+first-between (c ∷ cs) n t (here h e) =
+    let low = leb 20 (c .number) in
+    let high = leb (c .number) 30 in
+    let p = and-eq-true-iff low high .0 (and-eq-true-iff (low && high) (between cs) .0 t .0) in
+    (omega (arith, leb-true 20 (c .number) (p .0)), omega (arith, leb-true (c .number) 30 (p .1)))
+first-between (c ∷ cs) n t (later h f) = first-between cs n (and-eq-true-iff (leb 20 (c .number) && leb (c .number) 30) (between cs) .0 t .1) f
+
+versions-between : {bytes : List ℕ} {test : DataLength} {r prev p k : ℕ} → VersionsStop bytes test r prev p k → (20 ≤ r) × (r ≤ 30)
+unfolding between
+versions-between {bytes} {test} {r} {prev} {p} (version-here f) = first-between (versionCauses bytes test prev p) r refl f
+versions-between (version-later n s) = versions-between s
+
+entry-between : {body : List ℕ} {test : DataLength} {r prev p : ℕ} → EntryStops (slotRefusal body) body test r prev p → (20 ≤ r) × (r ≤ 30)
+unfolding between slotRefusal
+entry-between {body} {test} {r} {prev} {p} (by-key f) = first-between (keyCauses body prev p) r refl f
+entry-between {body} {test} {r} {prev} {p} (by-slot n is s) = first-between (slotCauses body _ p) r refl (slot-exact body _ p r is s)
+entry-between (by-versions n z v) = versions-between v
+
+walk-between : {body : List ℕ} {test : DataLength} {r prev p k : ℕ} → WalkStops (slotRefusal body) body test r prev p k → (20 ≤ r) × (r ≤ 30)
+walk-between (entry-here s) = entry-between s
+walk-between (entry-later z s) = walk-between s
+walk-between (left-over e n) = (omega arith, omega arith)
+
+-- THEOREM: what stops validation has a number from 20 to 30
+pub stops-between : {body : List ℕ} {size r : ℕ} → ValidationStops body size r → (20 ≤ r) × (r ≤ 30)
+unfolding between
+stops-between {body} {size} {r} (magic-wrong f) = first-between (magicCauses body) r refl f
+stops-between {body} {size} {r} (dimensions-wrong n f) =
+    first-between (dimensionCauses (length body) (keysIn body) (bucketsIn body) (arenaIn body)) r refl f
+stops-between (pilot-past h e i l q) = (omega arith, omega arith)
+stops-between (arena-stops c w) = walk-between w

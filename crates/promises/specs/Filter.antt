@@ -1,18 +1,41 @@
--- Demand 3 of a filter: what was built of a set of hashes is read with its sizes and keys, and never calls one of them absent. Assumes nothing.
-use Prim.Native.Nat.{ℕ, _*_, _≤_}
-use mathlib.Core.Path.{_≡_, ap}
-use mathlib.Core.List.{List, [], _∷_}
-use lib.ListN.{length, take}
+-- Demand 3 of a filter: what was built of a set of hashes is read with its sizes and keys, and never calls one of them absent, at the C
+-- boundary too; the queue's bound, the sizing rule, and that accepted bytes written again are the same bytes. Assumes nothing.
+use Prim.Native.Nat.{ℕ, _+_, _*_, _≤_, _<_}
+use native.Mathlib.Omega.{arith}
+use mathlib.Core.Path.{_≡_, refl, sym, ap, _∙_}
+use mathlib.Core.List.{List, [], _∷_, map}
+use borrow.Author.Tests.{le-ltb}
+use lib.ListN.{length, take, getD, length-map, List·getD-append}
+use Rattle.laws.specs.Refusals.{firstOf}
+use Rattle.laws.specs.RefusalLaws.{orElse-zero}
 use Rattle.laws.specs.Count.{count}
+use Rattle.laws.specs.Lists.{map-at}
+use Rattle.words.specs.Field.{splice}
+use Rattle.words.proofs.PartLaws.{splice-front}
+use Rattle.mixing.specs.Mixing.{mixOf}
 use Rattle.fuse.specs.declared.Sizes.{Sizes}
-use Rattle.fuse.specs.Positions.{cellsIn}
+use Rattle.fuse.specs.Positions.{cellsIn, Usable}
+use Rattle.sizing.specs.Table.{mostHashes}
 use Rattle.sizing.specs.Sizing.{sizesOf}
+use Rattle.sizing.proofs.SizedLaws.{usable}
+use Rattle.sort.specs.Sort.{sorted}
+use Rattle.peel.specs.Peel.{Attempt, afterSteps}
+use Rattle.peel.proofs.AttemptLaws as peeling
 use Rattle.filter.specs.declared.Built.{Built}
-use Rattle.filter.specs.declared.Built.the-variants.{Fuse}
-use Rattle.filter.specs.Reading.{readOf}
+use Rattle.filter.specs.declared.Built.the-variants.{Positive, Fuse, Refused}
+use Rattle.filter.specs.Reading.{readOf, readRefusal}
 use Rattle.filter.specs.Asking.{askOf, askNumber}
 use Rattle.filter.specs.Building.{builtRefusal, lengthBy, builtValues, BuildPost, FilterOf, asRead}
 use Rattle.filter.proofs.BuiltLaws.{zero-accepts, filter-cause, built-values, built-reads, never-absent}
+use Rattle.kiban_c.specs.Lent.{numberBy, leftBy}
+use Rattle.kiban_c.specs.FilterCalls.{buildCalled, filterBuildChecks, FilterBuildCall, filterAskOf, askAllValues, filterAskAllChecks, FilterAskAllCall}
+-- the rule over the table of segment counts: first counts rise strictly from 1, segments are at least 4, and at each row's last n (so at each
+-- n) 40 × cells ≥ 43 × n
+pub use Rattle.sizing.proofs.SizedLaws.{firsts-rise, firsts-from, segments-within, row-rule, cells-enough}
+-- accepted bytes written again are the same bytes
+pub use Rattle.filter.proofs.ExactLaws.{same-again, written-again}
+
+-- ---- build
 
 -- the written bytes of an answer, in front of the output
 abbrev pub filterBytes : Built → (out : List ℕ) → List ℕ
@@ -53,3 +76,104 @@ filter-stands {hashes} {wide} {narrow} {out} {r} P z =
       sized = λ s e. sized-for hashes s (filter-cause P s e);
       present = λ hash k. ap askNumber (never-absent P n hash k);
     }
+
+-- ---- the C boundary
+
+-- the length in the answer's front, and what is asked of what was built
+length-front : (b : Built) (answer : List ℕ) → ((q : ℕ) → b ≡ Refused q → ⊥) → getD (splice answer 0 (builtValues b)) 0 0 ≡ lengthBy b
+length-front Positive answer n = ap (λ (l : List ℕ). getD l 0 0) (splice-front answer (builtValues Positive))
+length-front (Fuse s) answer n = ap (λ (l : List ℕ). getD l 0 0) (splice-front answer (builtValues (Fuse s)))
+length-front (Refused q) answer n = absurd (n q refl)
+
+asks-each : (b : Built) (bytes asked : List ℕ) → ((q : ℕ) → b ≡ Refused q → ⊥)
+    → (readRefusal (asRead b) ≡ 0) × (askAllValues (asRead b) bytes asked ≡ map (filterAskOf bytes) asked)
+asks-each Positive bytes asked n = (refl, refl)
+asks-each (Fuse s) bytes asked n = (refl, refl)
+asks-each (Refused q) bytes asked n = absurd (n q refl)
+
+module _ {hashes wide narrow out answer hashes' wide' narrow' out' answer' : List ℕ}
+    (P : FilterBuildCall hashes wide narrow out answer 0 hashes' wide' narrow' out' answer') where
+  no-refusal : (firstOf (filterBuildChecks answer) ≡ 0) × (builtRefusal (buildCalled hashes wide narrow out) ≡ 0)
+  unfolding numberBy
+  no-refusal = orElse-zero _ _ (sym (P .number))
+
+  own : (before after : List ℕ) → leftBy (filterBuildChecks answer) before after ≡ after
+  unfolding leftBy
+  own before after = rw (no-refusal .0)
+
+  post : BuildPost hashes wide narrow out (buildCalled hashes wide narrow out) hashes' wide' narrow' out'
+  post = record {
+    answer = refl;
+    hashes-after = P .hashes-after ∙ own _ _;
+    wide-after = P .wide-after ∙ own _ _;
+    narrow-after = P .narrow-after ∙ own _ _;
+    out-after = P .out-after ∙ own _ _;
+  }
+
+  taken : (q : ℕ) → buildCalled hashes wide narrow out ≡ Refused q → ⊥
+  taken = zero-accepts post (no-refusal .1)
+
+  stands : Stands hashes (buildCalled hashes wide narrow out) out'
+  stands = filter-stands post (no-refusal .1)
+
+  bytes-front : take (getD answer' 0 0) out' ≡ filterBytes (buildCalled hashes wide narrow out) out'
+  bytes-front =
+      ap (λ (n : ℕ). take n out')
+      (ap (λ (l : List ℕ). getD l 0 0) (P .answer-after ∙ own _ _) ∙ length-front (buildCalled hashes wide narrow out) answer taken)
+
+  -- THEOREM: where kiban_filter_build returns 0, kiban_filter_ask on the first answer[0] bytes returns 1 for each of the hashes
+  pub call-present : (hash : ℕ) → 1 ≤ count hash hashes → filterAskOf (take (getD answer' 0 0) out') hash ≡ 1
+  call-present hash k = ap (λ (bytes : List ℕ). filterAskOf bytes hash) bytes-front ∙ stands .present hash k
+
+  module _ {asked answers : List ℕ} {r : ℕ} {answers' : List ℕ} (A : FilterAskAllCall (take (getD answer' 0 0) out') asked answers r answers')
+      (room : length asked ≤ length answers) where
+    roomy : firstOf (filterAskAllChecks asked answers) ≡ 0
+    roomy = rw (le-ltb (length answers) (length asked) room)
+
+    each : (readRefusal (readOf (take (getD answer' 0 0) out')) ≡ 0)
+        × (askAllValues (readOf (take (getD answer' 0 0) out')) (take (getD answer' 0 0) out') asked ≡ map (filterAskOf (take (getD answer' 0 0) out')) asked)
+    each = rw (ap readOf bytes-front ∙ stands .read) (asks-each (buildCalled hashes wide narrow out) (take (getD answer' 0 0) out') asked taken)
+
+    -- THEOREM: kiban_filter_ask_all on them returns 0
+    pub call-asked : r ≡ 0
+    unfolding numberBy
+    call-asked = A .number ∙ rw (roomy, each .0)
+
+    -- THEOREM: and answers 1 at the place of each of the hashes
+    pub call-all-present : (i : ℕ) → i < length asked → 1 ≤ count (getD asked i 0) hashes → getD answers' i 0 ≡ 1
+    unfolding leftBy
+    call-all-present i l k =
+        let values = map (filterAskOf (take (getD answer' 0 0) out')) asked in
+        let put : answers' ≡ splice answers 0 values = A .answers-after ∙ rw (roomy, each .1) in
+        ap (λ (t : List ℕ). getD t i 0) (put ∙ splice-front answers values)
+        ∙ List·getD-append values _ 0 i (omega (arith, length-map asked (filterAskOf (take (getD answer' 0 0) out'))))
+        ∙ map-at (filterAskOf (take (getD answer' 0 0) out')) asked i l
+        ∙ call-present (getD asked i 0) k
+
+-- ---- the queue
+
+-- the attempt with seed mix(i) to build a filter of the hashes, after so many steps
+abbrev pub attemptAfter : (hashes : List ℕ) (i steps : ℕ) → Attempt
+attemptAfter hashes i steps = afterSteps (sizesOf (length hashes) .segment) (sizesOf (length hashes) .count) (mixOf i) (sorted hashes) steps
+
+-- the cells of every attempt
+abbrev pub cellsTried : (hashes : List ℕ) → ℕ
+cellsTried hashes = cellsIn (sizesOf (length hashes) .segment) (sizesOf (length hashes) .count)
+
+module _ (hashes : List ℕ) (some : 1 ≤ length hashes) (few : length hashes ≤ mostHashes) (i : ℕ) where
+  sizes-usable : Usable (sizesOf (length hashes) .segment) (sizesOf (length hashes) .count)
+  unfolding sizesOf
+  sizes-usable = usable (length hashes) some (omega arith)
+
+  -- THEOREM: the queue holds at most one entry for each cell over a whole attempt: after any number of steps a cell was taken, or waits, once at
+  -- most
+  pub cell-queued-once : (steps cell : ℕ) → count cell (attemptAfter hashes i steps .taken) + count cell (attemptAfter hashes i steps .queue) ≤ 1
+  cell-queued-once = peeling.cell-queued-once (sizesOf (length hashes) .segment) (sizesOf (length hashes) .count) (mixOf i) sizes-usable (sorted hashes)
+
+  -- THEOREM: so a place for each cell is enough for all that were ever queued
+  pub queue-fits : (steps : ℕ) → length (attemptAfter hashes i steps .taken) + length (attemptAfter hashes i steps .queue) ≤ cellsTried hashes
+  queue-fits = peeling.queue-fits (sizesOf (length hashes) .segment) (sizesOf (length hashes) .count) (mixOf i) sizes-usable (sorted hashes)
+
+  -- THEOREM: and as many steps as there are cells empty the queue
+  pub queue-empties : attemptAfter hashes i (cellsTried hashes) .queue ≡ []
+  queue-empties = peeling.queue-empties (sizesOf (length hashes) .segment) (sizesOf (length hashes) .count) (mixOf i) sizes-usable (sorted hashes)

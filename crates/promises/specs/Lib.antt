@@ -1,14 +1,15 @@
 -- What is promised, in the order to read: `Refused` (demand 1, each number exactly for its cause and nothing lent changed), `Answers` (number
 -- and values of each answer that is no refusal), `Boundary` (demand 1 of the C boundary's own refusals), `Accepted` (demand 3 of any bytes that
--- validation accepts), `Finished` (demand 3 of a list that was taken and finished), `Filter` (demand 3 of a filter), `Unique` (each call's
--- result is fixed), `Figures` (P1 to P9, over the list in records' `Example`), and `IdleAdd`, `IdleIndex`, `IdleFilter` (the idle programs,
--- each shut out on a concrete input).
+-- validation accepts), `Finished` (demand 3 of a list that was taken and finished), `Filter` (demand 3 of a filter), `Listed` (what the desk
+-- reads), `Unique` (each call's result is fixed), `Figures` (P1 to P9, over the list in records' `Example`), and `IdleAdd`, `IdleIndex`,
+-- `IdleFilter` (the idle programs, each shut out on a concrete input).
 pub mod Refused
 pub mod Answers
 pub mod Boundary
 pub mod Accepted
 pub mod Finished
 pub mod Filter
+pub mod Listed
 pub mod Unique
 pub mod Figures
 pub mod IdleAdd

@@ -1,6 +1,6 @@
 -- Demand 1: the number of what meets a call's contract, above 0, is that whose cause is the first that holds, and nothing lent is changed
 -- but the zeroed workspace; and where a cause is the first that holds, its number is given. Assumes nothing.
-use Prim.Native.Nat.{ℕ, suc, _+_, _<_}
+use Prim.Native.Nat.{ℕ, suc, _+_, _<_, _≤_}
 use mathlib.Core.Path.{_≡_, sym, ap, _∙_}
 use mathlib.Core.Bool.{Bool, true, false, cond}
 use mathlib.Core.List.{List}
@@ -24,7 +24,7 @@ use Rattle.finish.proofs.Answers.{finish-number, cause-first, cause-given}
 use Rattle.point.specs.Validate.{validateOf, refusalNumber}
 use Rattle.point.specs.Get.{locateOf, openRecordOf, openOf, getOf, locatedNumber, openedNumber, answerNumber}
 use Rattle.point.specs.Causes.{ValidationStops, LocatingDamaged, RecordDamaged, OpeningDamaged, DamageMet}
-use Rattle.point.proofs.CauseLaws.{validate-cause, cause-validate}
+use Rattle.point.proofs.CauseLaws.{validate-cause, cause-validate, stops-between}
 use Rattle.point.proofs.AnswerLaws.{locate-cause, cause-locate, record-cause, cause-record, open-cause, cause-open, get-cause, cause-get, locate-open, open-get}
 use Rattle.filter.specs.declared.SstFilter.{SstFilter}
 use Rattle.filter.specs.declared.Written.{Written}
@@ -104,6 +104,9 @@ validate-refused = validate-cause
 
 pub refused-validate : (body : List ℕ) (size n : ℕ) → ValidationStops body size n → refusalNumber (validateOf body size) ≡ n
 refused-validate = cause-validate
+
+pub validate-numbers : {body : List ℕ} {size n : ℕ} → ValidationStops body size n → (20 ≤ n) × (n ≤ 30)
+validate-numbers = stops-between
 
 -- ---- get, and what it starts with: opening a key, which is locating it and opening the record there (14)
 
