@@ -13,8 +13,7 @@ use Rattle.words.specs.Field.{bytesOf, splice}
 use Rattle.words.proofs.Laws.{length-bytesOf, length-splice, drop-splice}
 use Rattle.words.proofs.Ordered.{same-self}
 use Rattle.records.specs.declared.Kind.{Kind}
-use Rattle.records.specs.declared.Record.{Record}
-use Rattle.records.specs.Model.{Entry, versionBytes, entryBytes}
+use Rattle.records.specs.Model.{versionBytes, entryBytes}
 use Rattle.records.specs.Places.{versionCount}
 use Rattle.records.proofs.WriteLaws.{version-size, entry-size}
 use Rattle.builder.specs.declared.PointBuilder.{PointBuilder}
@@ -25,22 +24,22 @@ use Rattle.builder.specs.declared.OffsetSet.the-variants as offset-set
 use Rattle.builder.specs.State.{emptyBuilder, fits, lastOf, roomOf}
 use Rattle.builder.specs.Add.{newCauses, continuedCauses, addCauses, addRefusal, nextState, nextPlace, recordOf, newEntry, appended, addOf, bufferAfterAdd, addedNumber, stateValues, addedValues, AddPost}
 use Rattle.builder.specs.SetOffset.{setCauses, setOf, bufferAfterSet, setNumber, SetPost}
-use Rattle.builder.specs.Taken.{Taken}
 use Rattle.builder.proofs.StateLaws.{fits-known}
 use Rattle.builder.proofs.AddLaws.{Sized, Opened, Continued, add-numbered, new-ready, continued-ready}
 use Rattle.builder.proofs.AnswerLaws.{taken-known, taken-given, buffer-taken, refused-known, refused-given, add-number, set-numbered, set-passed, set-known, set-given, buffer-set, unset-known, unset-given, set-number}
-use Rattle.builder.proofs.HeldLaws.{ending}
-use Rattle.builder.proofs.TakenTheorems.{taken-last}
 
 positive : (n : ℕ) → (n ≡ 0 → ⊥) → 0 < n
 positive n h = omega arith
 
+-- what is the same from a place on is the same from a later one on
+pub drop-later : (m n : ℕ) (xs ys : List ℕ) → m ≤ n → drop m xs ≡ drop m ys → drop n xs ≡ drop n ys
+drop-later m n xs ys h e =
+    let k : n ≡ m + (n - m) = omega arith in
+    ap (λ (i : ℕ). drop i xs) k ∙ sym (drop-drop (n - m) m xs) ∙ ap (drop (n - m)) e ∙ drop-drop (n - m) m ys ∙ ap (λ (i : ℕ). drop i ys) (sym k)
+
 -- what lies past a part that was put stays
 drop-past : (xs : List ℕ) (at : ℕ) (ys : List ℕ) (n : ℕ) → at + length ys ≤ length xs → at + length ys ≤ n → drop n (splice xs at ys) ≡ drop n xs
-drop-past xs at ys n h p =
-    let e : n ≡ at + length ys + (n - (at + length ys)) = omega arith in
-    ap (λ (m : ℕ). drop m (splice xs at ys)) e ∙ sym (drop-drop (n - (at + length ys)) (at + length ys) (splice xs at ys))
-    ∙ ap (drop (n - (at + length ys))) (drop-splice xs at ys h) ∙ drop-drop (n - (at + length ys)) (at + length ys) xs ∙ ap (λ (m : ℕ). drop m xs) (sym e)
+drop-past xs at ys n h p = drop-later (at + length ys) n (splice xs at ys) xs p (drop-splice xs at ys h)
 
 -- ---- add
 
@@ -159,15 +158,6 @@ module _ (s : PointBuilder) (buffer key : List ℕ) (kind : Kind) (size sequence
         drop-past (splice buffer (s .head + 4) count) (s .used) version (s .used + 21) fits-too (omega arith) ∙ drop-past buffer (s .head + 4) count (s .used + 21) fit (omega arith),
         length-splice (splice buffer (s .head + 4) count) (s .used) version fits-too ∙ n,
       )
-
--- THEOREM: the error that started this: to a taken list, a version of the last key whose sequence is not below the last one's is refused
--- with 4, and nothing changes
-pub oldest-first-refused-of-list : {s : PointBuilder} {buffer : List ℕ} (front : List Entry) (key : List ℕ) (older : List Record) (newest : Record) (kind : Kind) (size sequence : ℕ)
-    → Taken s buffer (ending front key older newest) → Sized s buffer key kind size → newest .sequence ≤ sequence
-    → (addOf s buffer key kind size sequence false ≡ added.Refused 4) × (bufferAfterAdd s buffer key kind size sequence false ≡ buffer)
-oldest-first-refused-of-list {s} {buffer} front key older newest kind size sequence t k h =
-    let l = taken-last front key older newest t in
-    oldest-first-refused s buffer key kind size sequence k (l .0) (ap (λ x. x .key) (l .1)) (rw (l .1) h)
 
 -- ---- set offset
 

@@ -10,11 +10,7 @@ use Rattle.words.proofs.Laws.{length-bytesOf}
 use Rattle.records.specs.declared.Record.{Record}
 use Rattle.records.specs.Model.{Entry, kindByte, versionBytes, versionsBytes, entryBytes, tableBytes}
 use Rattle.records.proofs.WriteLaws.{versions-size}
-use Rattle.builder.specs.Taken.{withOffset}
-
--- an entry
-abbrev pub entry : List ℕ → List Record → Entry
-entry key versions = record { key = key; versions = versions }
+use Rattle.builder.specs.Taken.{entry, withOffset}
 
 -- a part put in the place of another of its length
 pub splice-middle : (xs ys zs ws : List ℕ) (at : ℕ) → at ≡ length xs → length ws ≡ length ys → splice (xs ++ (ys ++ zs)) at ws ≡ xs ++ (ws ++ zs)

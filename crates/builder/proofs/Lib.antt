@@ -8,3 +8,6 @@ pub mod HeldLaws
 pub mod StepLaws
 pub mod TakenTheorems
 pub mod Answers
+pub mod TakenExists
+pub mod TakenBuffer
+pub mod OldestFirst

@@ -7,7 +7,7 @@ use Rattle.laws.specs.Each.Each.{each-none, each-more}
 use Rattle.words.specs.declared.part.Order.the-variants.{Less}
 use Rattle.words.specs.Part.{orderOf}
 use Rattle.records.specs.declared.Record.{Record}
-use Rattle.records.specs.Model.{Entry, Falls, falls-one, falls-more, Rises, rises-one, rises-more}
+use Rattle.records.specs.Model.{Entry, Falls, falls-one, falls-more, Rises, rises-none, rises-one, rises-more}
 use Rattle.builder.specs.Taken.{onLast}
 
 pub last-changed : {A : Type 0} (f : A → A) (xs : List A) (x : A) → onLast f (xs ++ (x ∷ [])) ≡ xs ++ (f x ∷ [])
@@ -33,22 +33,40 @@ module _ {A : Type 0} {P : A → Type 0} where
   each-changed f keeps (x ∷ y ∷ ys) (each-more p ps) = each-more p (each-changed f keeps (y ∷ ys) ps)
 
 -- a version behind the last one, below it
-pub falls-on : (rs : List Record) (n r : Record) → Falls (rs ++ (n ∷ [])) → r .sequence < n .sequence → Falls ((rs ++ (n ∷ [])) ++ (r ∷ []))
-falls-on [] n r f h = falls-more h falls-one
-falls-on (a ∷ []) n r (falls-more g f) h = falls-more g (falls-on [] n r f h)
-falls-on (a ∷ b ∷ rs) n r (falls-more g f) h = falls-more g (falls-on (b ∷ rs) n r f h)
+pub falls-on : (rs : List Record) (l r : Record) → Falls (rs ++ (l ∷ [])) → r .sequence < l .sequence → Falls ((rs ++ (l ∷ [])) ++ (r ∷ []))
+falls-on [] l r f h = falls-more h falls-one
+falls-on (a ∷ []) l r (falls-more g f) h = falls-more g (falls-on [] l r f h)
+falls-on (a ∷ b ∷ rs) l r (falls-more g f) h = falls-more g (falls-on (b ∷ rs) l r f h)
+
+-- the version behind the last of those before it is below that one
+pub falls-end : (rs : List Record) (l r : Record) (ss : List Record) → Falls ((rs ++ (l ∷ [])) ++ (r ∷ ss)) → r .sequence < l .sequence
+falls-end [] l r ss (falls-more h f) = h
+falls-end (a ∷ []) l r ss (falls-more g f) = falls-end [] l r ss f
+falls-end (a ∷ b ∷ rs) l r ss (falls-more g f) = falls-end (b ∷ rs) l r ss f
 
 -- another last version of the same sequence
-pub falls-last : (rs : List Record) (n m : Record) → m .sequence ≡ n .sequence → Falls (rs ++ (n ∷ [])) → Falls (rs ++ (m ∷ []))
-falls-last [] n m e f = falls-one
-falls-last (a ∷ []) n m e (falls-more g f) = let h : m .sequence < a .sequence = rw e g in falls-more h falls-one
-falls-last (a ∷ b ∷ rs) n m e (falls-more g f) = falls-more g (falls-last (b ∷ rs) n m e f)
+pub falls-last : (rs : List Record) (l m : Record) → m .sequence ≡ l .sequence → Falls (rs ++ (l ∷ [])) → Falls (rs ++ (m ∷ []))
+falls-last [] l m e f = falls-one
+falls-last (a ∷ []) l m e (falls-more g f) = let h : m .sequence < a .sequence = rw e g in falls-more h falls-one
+falls-last (a ∷ b ∷ rs) l m e (falls-more g f) = falls-more g (falls-last (b ∷ rs) l m e f)
 
 -- an entry behind the last one, of a greater key
 pub rises-on : (es : List Entry) (l e : Entry) → Rises (es ++ (l ∷ [])) → orderOf (l .key) (e .key) ≡ Less → Rises ((es ++ (l ∷ [])) ++ (e ∷ []))
 rises-on [] l e f h = rises-more h rises-one
 rises-on (a ∷ []) l e (rises-more g f) h = rises-more g (rises-on [] l e f h)
 rises-on (a ∷ b ∷ es) l e (rises-more g f) h = rises-more g (rises-on (b ∷ es) l e f h)
+
+-- the entry behind the last of those before it has a greater key
+pub rises-end : (es : List Entry) (l e : Entry) → Rises ((es ++ (l ∷ [])) ++ (e ∷ [])) → orderOf (l .key) (e .key) ≡ Less
+rises-end [] l e (rises-more h f) = h
+rises-end (a ∷ []) l e (rises-more g f) = rises-end [] l e f
+rises-end (a ∷ b ∷ es) l e (rises-more g f) = rises-end (b ∷ es) l e f
+
+-- the front of entries that rise
+pub rises-front : (es fs : List Entry) → Rises (es ++ fs) → Rises es
+rises-front [] fs f = rises-none
+rises-front (a ∷ []) fs f = rises-one
+rises-front (a ∷ b ∷ es) fs (rises-more g f) = rises-more g (rises-front (b ∷ es) fs f)
 
 -- another last entry of the same key
 pub rises-last : (es : List Entry) (l m : Entry) → m .key ≡ l .key → Rises (es ++ (l ∷ [])) → Rises (es ++ (m ∷ []))

@@ -4,7 +4,7 @@ use mathlib.Core.Path.{_≡_, refl, sym, ap, _∙_}
 use mathlib.Core.Bool.{true, false}
 use mathlib.Core.List.{List, [], _∷_, _++_}
 use native.Mathlib.Omega.{arith}
-use borrow.Author.Tests.{eqb-true, not-false}
+use borrow.Author.Tests.{eqb-true, eq-eqb, not-false}
 use lib.Dec.{eqb}
 use lib.ListN.{length, take, drop, length-append, take-append-drop}
 use lib.Seq.{length-take-le, take-at}
@@ -23,16 +23,20 @@ use Rattle.records.specs.Tables.{RecordRules, EntryRules, TableRules}
 use Rattle.records.proofs.WriteLaws.{version-size, entry-size}
 use Rattle.builder.specs.declared.PointBuilder.{PointBuilder}
 use Rattle.builder.specs.Add.{recordOf, newEntry, nextState, appended}
-use Rattle.builder.specs.Taken.{withOffset}
+use Rattle.builder.specs.Taken.{entry, withOffset}
 use Rattle.builder.proofs.ListLaws.{each-last, last-each, falls-on, falls-last, rises-last}
-use Rattle.builder.proofs.BodyLaws.{entry, table-last, body, body-table, body-more, body-length, body-count, version-offset}
-use Rattle.builder.proofs.HeldLaws.{Standing, entry-rules, read-count, before, behind, before-length}
+use Rattle.builder.proofs.BodyLaws.{table-last, body, body-table, body-more, body-length, body-count, version-offset}
+use Rattle.builder.proofs.HeldLaws.{Standing, entry-rules, read-count, bytesBefore, behind, bytes-before-length}
 
 -- ---- a record that passed keeps the rules
 
 empty-valued : (kind : Kind) (size : ℕ) → fullTombstone (kindByte kind) size ≡ false → kind ≡ Tombstone → size ≡ 0
 empty-valued Put size v e = absurd (let z : _≡_ {A = ℕ} 0 1 = cc in omega arith)
 empty-valued Tombstone size v e = eqb-true size 0 (not-false (eqb size 0) v)
+
+pub valued-empty : (kind : Kind) (size : ℕ) → (kind ≡ Tombstone → size ≡ 0) → fullTombstone (kindByte kind) size ≡ false
+valued-empty Put size e = refl
+valued-empty Tombstone size e = rw (eq-eqb size 0 (e refl))
 
 pub record-rules : (kind : Kind) (size sequence : ℕ) → size ≤ 16777216 → fullTombstone (kindByte kind) size ≡ false → sequence < 2 ^ 64 → RecordRules Untested (recordOf kind size sequence 0)
 record-rules kind size sequence z v q =
@@ -70,53 +74,53 @@ module _ (s : PointBuilder) (buffer key : List ℕ) (table : List Entry) (r : Re
 
 -- ---- a continued key, and a set offset
 
-module _ (s : PointBuilder) (buffer : List ℕ) (front : List Entry) (key : List ℕ) (older : List Record) (newest : Record) (st : Standing s buffer front key older newest) where
+module _ (s : PointBuilder) (buffer : List ℕ) (front : List Entry) (key : List ℕ) (before : List Record) (last : Record) (st : Standing s buffer front key before last) where
   -- the rules of the table with another last entry of the same key
   table-rules : (vs : List Record) → EntryRules Untested (entry key vs) → TableRules Untested (front ++ (entry key vs ∷ []))
   table-rules vs k =
       record {
-        entries = each-last front (entry key vs) (last-each front (entry key (older ++ (newest ∷ []))) (st .rules .entries) .0) k;
-        rises = rises-last front (entry key (older ++ (newest ∷ []))) (entry key vs) refl (st .rules .rises);
+        entries = each-last front (entry key vs) (last-each front (entry key (before ++ (last ∷ []))) (st .rules .entries) .0) k;
+        rises = rises-last front (entry key (before ++ (last ∷ []))) (entry key vs) refl (st .rules .rises);
       }
 
-  module _ (r : Record) (k : RecordRules Untested r) (older-still : r .sequence < newest .sequence) (countable : length (older ++ (newest ∷ [])) < 4294967295) where
-    more-rules : EntryRules Untested (entry key ((older ++ (newest ∷ [])) ++ (r ∷ [])))
+  module _ (r : Record) (k : RecordRules Untested r) (older-still : r .sequence < last .sequence) (countable : length (before ++ (last ∷ [])) < 4294967295) where
+    more-rules : EntryRules Untested (entry key ((before ++ (last ∷ [])) ++ (r ∷ [])))
     more-rules =
-        let e = entry-rules s buffer front key older newest st in
+        let e = entry-rules s buffer front key before last st in
         record {
           small = e .small;
           some = rw length-append (omega arith);
           few = rw length-append (omega arith);
-          falls = falls-on older newest r (e .falls) older-still;
-          versions = each-last (older ++ (newest ∷ [])) r (e .versions) k;
+          falls = falls-on before last r (e .falls) older-still;
+          versions = each-last (before ++ (last ∷ [])) r (e .versions) k;
         }
 
     -- the buffer with the count raised
     raised : List ℕ
-    raised = body front key (older ++ (newest ∷ [])) (length (older ++ (newest ∷ [])) + 1) ++ drop (s .used) buffer
+    raised = body front key (before ++ (last ∷ [])) (length (before ++ (last ∷ [])) + 1) ++ drop (s .used) buffer
 
-    used-body : (count : ℕ) → s .used ≡ length (body front key (older ++ (newest ∷ [])) count)
+    used-body : (count : ℕ) → s .used ≡ length (body front key (before ++ (last ∷ [])) count)
     used-body count =
-        sym (length-take-le (s .used) buffer (st .inside)) ∙ ap length (st .bytes ∙ body-table front key (older ++ (newest ∷ [])))
-        ∙ body-length front key (older ++ (newest ∷ [])) (length (older ++ (newest ∷ []))) ∙ sym (body-length front key (older ++ (newest ∷ [])) count)
+        sym (length-take-le (s .used) buffer (st .inside)) ∙ ap length (st .bytes ∙ body-table front key (before ++ (last ∷ [])))
+        ∙ body-length front key (before ++ (last ∷ [])) (length (before ++ (last ∷ []))) ∙ sym (body-length front key (before ++ (last ∷ [])) count)
 
     raised-is : splice buffer (s .head + 4) (bytesOf 4 (versionCount buffer (s .head) + 1)) ≡ raised
     unfolding raised
     raised-is =
-        ap (λ (n : ℕ). splice buffer (s .head + 4) (bytesOf 4 (n + 1))) (read-count s buffer front key older newest st)
-        ∙ ap (λ (n : ℕ). splice buffer (n + 4) (bytesOf 4 (length (older ++ (newest ∷ [])) + 1))) (st .headed)
-        ∙ ap (λ (l : List ℕ). splice l (length (tableBytes front) + 4) (bytesOf 4 (length (older ++ (newest ∷ [])) + 1))) (sym (take-append-drop (s .used) buffer) ∙ ap (λ (l : List ℕ). l ++ drop (s .used) buffer) (st .bytes ∙ body-table front key (older ++ (newest ∷ []))))
-        ∙ body-count front key (older ++ (newest ∷ [])) (length (older ++ (newest ∷ []))) (length (older ++ (newest ∷ [])) + 1) (drop (s .used) buffer)
+        ap (λ (n : ℕ). splice buffer (s .head + 4) (bytesOf 4 (n + 1))) (read-count s buffer front key before last st)
+        ∙ ap (λ (n : ℕ). splice buffer (n + 4) (bytesOf 4 (length (before ++ (last ∷ [])) + 1))) (st .headed)
+        ∙ ap (λ (l : List ℕ). splice l (length (tableBytes front) + 4) (bytesOf 4 (length (before ++ (last ∷ [])) + 1))) (sym (take-append-drop (s .used) buffer) ∙ ap (λ (l : List ℕ). l ++ drop (s .used) buffer) (st .bytes ∙ body-table front key (before ++ (last ∷ []))))
+        ∙ body-count front key (before ++ (last ∷ [])) (length (before ++ (last ∷ []))) (length (before ++ (last ∷ [])) + 1) (drop (s .used) buffer)
 
     raised-length : length raised ≡ length buffer
     raised-length =
         ap length (sym raised-is)
-        ∙ length-splice buffer (s .head + 4) (bytesOf 4 (versionCount buffer (s .head) + 1)) (rw length-bytesOf (omega (arith, st .inside, st .headed, used-body 0, body-length front key (older ++ (newest ∷ [])) 0)))
+        ∙ length-splice buffer (s .head + 4) (bytesOf 4 (versionCount buffer (s .head) + 1)) (rw length-bytesOf (omega (arith, st .inside, st .headed, used-body 0, body-length front key (before ++ (last ∷ [])) 0)))
 
-    pub continued-stands : (asked : List ℕ) → s .used + 21 ≤ length buffer → Standing (nextState s asked false) (appended s buffer asked r false) front key (older ++ (newest ∷ [])) r
+    pub continued-stands : (asked : List ℕ) → s .used + 21 ≤ length buffer → Standing (nextState s asked false) (appended s buffer asked r false) front key (before ++ (last ∷ [])) r
     unfolding appended raised
     continued-stands asked room =
-        let vs = older ++ (newest ∷ []) in
+        let vs = before ++ (last ∷ []) in
         let fit : s .used + length (versionBytes r) ≤ length raised = rw (version-size r, raised-length) room in
         let n : length (vs ++ (r ∷ [])) ≡ length vs + 1 = length-append vs (r ∷ []) in
         rw raised-is
@@ -134,43 +138,43 @@ module _ (s : PointBuilder) (buffer : List ℕ) (front : List Entry) (key : List
         })
 
   module _ (offset : ℕ) (h : offset < 2 ^ 64) where
-    set-rules : EntryRules Untested (entry key (older ++ (withOffset offset newest ∷ [])))
+    set-rules : EntryRules Untested (entry key (before ++ (withOffset offset last ∷ [])))
     set-rules =
-        let e = entry-rules s buffer front key older newest st in
-        let p = last-each older newest (e .versions) in
+        let e = entry-rules s buffer front key before last st in
+        let p = last-each before last (e .versions) in
         let k = p .1 in
         let f = k .fits in
-        let n : length (older ++ (withOffset offset newest ∷ [])) ≡ length (older ++ (newest ∷ [])) = simp length-append in
+        let n : length (before ++ (withOffset offset last ∷ [])) ≡ length (before ++ (last ∷ [])) = simp length-append in
         record {
           small = e .small;
           some = rw n (e .some);
           few = rw n (e .few);
-          falls = falls-last older newest (withOffset offset newest) refl (e .falls);
+          falls = falls-last before last (withOffset offset last) refl (e .falls);
           versions =
-              each-last older (withOffset offset newest) (p .0)
+              each-last before (withOffset offset last) (p .0)
               (record { fits = record { sequence-fits = f .sequence-fits; length-fits = f .length-fits; offset-fits = h }; small = k .small; inside = refl; empty = k .empty });
         }
 
-    pub set-stands : (place : ℕ) → place ≡ s .used - 8 → Standing s (splice buffer place (bytesOf 8 offset)) front key older (withOffset offset newest)
-    unfolding before
+    pub set-stands : (place : ℕ) → place ≡ s .used - 8 → Standing s (splice buffer place (bytesOf 8 offset)) front key before (withOffset offset last)
+    unfolding bytesBefore
     set-stands place e =
-        let u = before-length s buffer front key older newest st in
-        let b = before s buffer front key older newest st in
-        let n : length (older ++ (withOffset offset newest ∷ [])) ≡ length (older ++ (newest ∷ [])) = simp length-append in
+        let u = bytes-before-length s buffer front key before last st in
+        let b = bytesBefore s buffer front key before last st in
+        let n : length (before ++ (withOffset offset last ∷ [])) ≡ length (before ++ (last ∷ [])) = simp length-append in
         let fit : place + length (bytesOf 8 offset) ≤ length buffer = rw length-bytesOf (omega (arith, st .inside)) in
         let a : place ≡ length b + 13 = omega arith in
-        let p : splice buffer place (bytesOf 8 offset) ≡ (b ++ versionBytes (withOffset offset newest)) ++ drop (s .used) buffer =
-        ap (λ (l : List ℕ). splice l place (bytesOf 8 offset)) (behind s buffer front key older newest st) ∙ version-offset b newest (drop (s .used) buffer) offset place a in
-        let l : length (b ++ versionBytes (withOffset offset newest)) ≡ s .used =
-        length-append b (versionBytes (withOffset offset newest)) ∙ ap (λ (m : ℕ). length b + m) (version-size (withOffset offset newest)) ∙ sym u in
+        let p : splice buffer place (bytesOf 8 offset) ≡ (b ++ versionBytes (withOffset offset last)) ++ drop (s .used) buffer =
+        ap (λ (l : List ℕ). splice l place (bytesOf 8 offset)) (behind s buffer front key before last st) ∙ version-offset b last (drop (s .used) buffer) offset place a in
+        let l : length (b ++ versionBytes (withOffset offset last)) ≡ s .used =
+        length-append b (versionBytes (withOffset offset last)) ∙ ap (λ (m : ℕ). length b + m) (version-size (withOffset offset last)) ∙ sym u in
         record {
           bytes =
-              ap (take (s .used)) p ∙ take-at (b ++ versionBytes (withOffset offset newest)) (drop (s .used) buffer) (s .used) l
-              ∙ sym (body-more front key older (withOffset offset newest) (length (older ++ (newest ∷ []))))
-              ∙ ap (body front key (older ++ (withOffset offset newest ∷ []))) (sym n) ∙ sym (body-table front key (older ++ (withOffset offset newest ∷ [])));
+              ap (take (s .used)) p ∙ take-at (b ++ versionBytes (withOffset offset last)) (drop (s .used) buffer) (s .used) l
+              ∙ sym (body-more front key before (withOffset offset last) (length (before ++ (last ∷ []))))
+              ∙ ap (body front key (before ++ (withOffset offset last ∷ []))) (sym n) ∙ sym (body-table front key (before ++ (withOffset offset last ∷ [])));
           inside = rw (length-splice buffer place (bytesOf 8 offset) fit) (st .inside);
           headed = st .headed;
           counted = st .counted;
           few = st .few;
-          rules = table-rules (older ++ (withOffset offset newest ∷ [])) set-rules;
+          rules = table-rules (before ++ (withOffset offset last ∷ [])) set-rules;
         }

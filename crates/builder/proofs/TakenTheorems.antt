@@ -1,16 +1,16 @@
 -- What a taken list is: its used bytes are its table's bytes, offsets as set; its state fits and counts its keys; the table keeps the rules.
 -- Assumes nothing.
-use Prim.Native.Nat.{ℕ, _+_, _^_, _≤_, _<_}
+use Prim.Native.Nat.{ℕ, _+_, _-_, _^_, _≤_, _<_}
 use mathlib.Core.Path.{_≡_, refl, sym, ap, _∙_}
 use mathlib.Core.Bool.{Bool, true, false}
 use mathlib.Core.List.{List, [], _∷_, _++_}
 use native.Mathlib.Omega.{arith}
 use lib.ListN.{length, take, length-append}
+use lib.Seq.{length-take-le, take-at}
 use Rattle.laws.specs.Each.{Each}
 use Rattle.laws.specs.Each.Each.{each-none}
 use Rattle.words.specs.declared.part.Order.the-variants.{Less}
 use Rattle.words.specs.Part.{orderOf}
-use Rattle.words.proofs.Laws.{AllBytes}
 use Rattle.records.specs.declared.Kind.{Kind}
 use Rattle.records.specs.declared.Record.{Record}
 use Rattle.records.specs.declared.DataLength.the-variants.{Untested}
@@ -21,19 +21,18 @@ use Rattle.builder.specs.declared.PointBuilder.{PointBuilder}
 use Rattle.builder.specs.State.{emptyBuilder, lastOf, fits}
 use Rattle.builder.specs.Add.{rises, recordOf, newEntry, nextState, appended, addRefusal, bufferAfterAdd}
 use Rattle.builder.specs.SetOffset.{setRefusal, bufferAfterSet}
-use Rattle.builder.specs.Taken.{onLast, withVersion, withOffset, withLastOffset, tableAfterAdd, tableAfterSet, Taken, taken-none, taken-added, taken-set}
+use Rattle.builder.specs.Taken.{entry, ending, KeyBytes, onLast, withVersion, withOffset, withLastOffset, tableAfterAdd, tableAfterSet, Taken, taken-none, taken-added, taken-set}
 use Rattle.builder.proofs.StateLaws.{fits-given}
 use Rattle.builder.proofs.AddLaws.{rises-known, new-passed, continued-passed, new-ready, continued-ready}
 use Rattle.builder.proofs.AnswerLaws.{taken-known, buffer-taken, set-known, set-passed, buffer-set}
 use Rattle.builder.proofs.ListLaws.{last-changed, each-last, each-changed, rises-on}
-use Rattle.builder.proofs.BodyLaws.{entry}
-use Rattle.builder.proofs.HeldLaws.{ending, Standing, read-key, last-read, keyed, fitting}
+use Rattle.builder.proofs.HeldLaws.{Standing, read-key, last-read, keyed, fitting}
 use Rattle.builder.proofs.StepLaws.{record-rules, new-stands, continued-stands, set-stands}
 
 -- the state and the buffer hold a table: nothing added, or a last record
 pub data Held : PointBuilder → List ℕ → List Entry → Type 0 where
   held-none : {buffer : List ℕ} → Held emptyBuilder buffer []
-  held-some : {s : PointBuilder} {buffer : List ℕ} (front : List Entry) (key : List ℕ) (older : List Record) (newest : Record) → Standing s buffer front key older newest → Held s buffer (ending front key older newest)
+  held-some : {s : PointBuilder} {buffer : List ℕ} (front : List Entry) (key : List ℕ) (before : List Record) (last : Record) → Standing s buffer front key before last → Held s buffer (ending front key before last)
 
 -- ---- each way keeps it
 
@@ -45,27 +44,27 @@ module _ (buffer key : List ℕ) (kind : Kind) (size sequence : ℕ) (q : sequen
       let r = new-ready emptyBuilder buffer key kind size sequence true refl z in
       held-some [] key [] (recordOf kind size sequence 0)
       (new-stands emptyBuilder buffer key [] (recordOf kind size sequence 0) refl (r .0) refl (r .2) (r .1) (record-rules kind size sequence (p .0 .small) (p .0 .valued) q) each-none rises-one)
-  held-new s table (held-some front last older newest st) z =
+  held-new s table (held-some front lastKey before last st) z =
       let p = new-passed s buffer key kind size sequence z in
       let r = new-ready s buffer key kind size sequence true refl z in
-      let o : orderOf last key ≡ Less =
-      less-is (orderOf last key) (rises-known s buffer key (keyed s buffer front last older newest st) (orderOf last key) (ap (λ (k : List ℕ). orderOf k key) (read-key s buffer front last older newest st)) ∙ p .1 .rising) in
-      held-some (ending front last older newest) key [] (recordOf kind size sequence 0)
-      (new-stands s buffer key (ending front last older newest) (recordOf kind size sequence 0) (st .bytes) (r .0) (st .counted ∙ sym (length-append front (entry last (older ++ (newest ∷ [])) ∷ []))) (r .2) (r .1)
+      let o : orderOf lastKey key ≡ Less =
+      less-is (orderOf lastKey key) (rises-known s buffer key (keyed s buffer front lastKey before last st) (orderOf lastKey key) (ap (λ (k : List ℕ). orderOf k key) (read-key s buffer front lastKey before last st)) ∙ p .1 .rising) in
+      held-some (ending front lastKey before last) key [] (recordOf kind size sequence 0)
+      (new-stands s buffer key (ending front lastKey before last) (recordOf kind size sequence 0) (st .bytes) (r .0) (st .counted ∙ sym (length-append front (entry lastKey (before ++ (last ∷ [])) ∷ []))) (r .2) (r .1)
       (record-rules kind size sequence (p .0 .small) (p .0 .valued) q) (st .rules .entries)
-      (rises-on front (entry last (older ++ (newest ∷ []))) (newEntry key (recordOf kind size sequence 0)) (st .rules .rises) o))
+      (rises-on front (entry lastKey (before ++ (last ∷ []))) (newEntry key (recordOf kind size sequence 0)) (st .rules .rises) o))
 
   held-continued : (s : PointBuilder) (table : List Entry) → Held s buffer table → addRefusal s buffer key kind size sequence false ≡ 0 → Held (nextState s key false) (appended s buffer key (recordOf kind size sequence 0) false) (onLast (withVersion (recordOf kind size sequence 0)) table)
   held-continued s table held-none z = absurd (continued-passed emptyBuilder buffer key kind size sequence z .1 .keyed refl)
-  held-continued s table (held-some front last older newest st) z =
+  held-continued s table (held-some front lastKey before last st) z =
       let p = continued-passed s buffer key kind size sequence z in
       let r = continued-ready s buffer key kind size sequence false refl z in
-      let l = last-read s buffer front last older newest st in
-      let below : sequence < newest .sequence = rw l at (p .1 .older) in
-      let countable : length (older ++ (newest ∷ [])) < 4294967295 = rw l at (p .1 .countable) in
-      rw (last-changed (withVersion (recordOf kind size sequence 0)) front (entry last (older ++ (newest ∷ []))))
-      (held-some front last (older ++ (newest ∷ [])) (recordOf kind size sequence 0)
-      (continued-stands s buffer front last older newest st (recordOf kind size sequence 0) (record-rules kind size sequence (p .0 .small) (p .0 .valued) q) below countable key (r .1)))
+      let l = last-read s buffer front lastKey before last st in
+      let below : sequence < last .sequence = rw l at (p .1 .older) in
+      let countable : length (before ++ (last ∷ [])) < 4294967295 = rw l at (p .1 .countable) in
+      rw (last-changed (withVersion (recordOf kind size sequence 0)) front (entry lastKey (before ++ (last ∷ []))))
+      (held-some front lastKey (before ++ (last ∷ [])) (recordOf kind size sequence 0)
+      (continued-stands s buffer front lastKey before last st (recordOf kind size sequence 0) (record-rules kind size sequence (p .0 .small) (p .0 .valued) q) below countable key (r .1)))
 
   pub held-added : (newKey : Bool) (s : PointBuilder) (table : List Entry) → Held s buffer table → addRefusal s buffer key kind size sequence newKey ≡ 0 → Held (nextState s key newKey) (bufferAfterAdd s buffer key kind size sequence newKey) (tableAfterAdd table key (recordOf kind size sequence 0) newKey)
   unfolding tableAfterAdd
@@ -75,10 +74,10 @@ module _ (buffer key : List ℕ) (kind : Kind) (size sequence : ℕ) (q : sequen
 pub held-set : (s : PointBuilder) (buffer : List ℕ) (table : List Entry) (place offset : ℕ) → offset < 2 ^ 64 → Held s buffer table → setRefusal s buffer place ≡ 0 → Held s (bufferAfterSet s buffer place offset) (tableAfterSet table offset)
 unfolding tableAfterSet
 held-set s buffer table place offset h held-none z = absurd (set-passed emptyBuilder buffer place z .1 refl)
-held-set s buffer table place offset h (held-some front key older newest st) z =
+held-set s buffer table place offset h (held-some front key before last st) z =
     let p = set-passed s buffer place z in
-    rw (buffer-set s buffer place offset z, last-changed (withLastOffset offset) front (entry key (older ++ (newest ∷ []))), last-changed (withOffset offset) older newest)
-    (held-some front key older (withOffset offset newest) (set-stands s buffer front key older newest st offset h place (p .2)))
+    rw (buffer-set s buffer place offset z, last-changed (withLastOffset offset) front (entry key (before ++ (last ∷ []))), last-changed (withOffset offset) before last)
+    (held-some front key before (withOffset offset last) (set-stands s buffer front key before last st offset h place (p .2)))
 
 -- every taken list is held
 pub taken-held : {s : PointBuilder} {buffer : List ℕ} {table : List Entry} → Taken s buffer table → Held s buffer table
@@ -100,11 +99,11 @@ pub record TakenFacts (s : PointBuilder) (buffer : List ℕ) (table : List Entry
 held-facts : {s : PointBuilder} {buffer : List ℕ} {table : List Entry} → Held s buffer table → TakenFacts s buffer table
 unfolding fits tableBytes
 held-facts held-none = record { fitting = refl; bytes = refl; counted = refl; few = omega arith; rules = record { entries = each-none; rises = rises-none } }
-held-facts (held-some {s} {buffer} front key older newest st) =
-    let n : length (ending front key older newest) ≡ length front + 1 = length-append front (entry key (older ++ (newest ∷ [])) ∷ []) in
-    let c : s .keys ≡ length (ending front key older newest) = st .counted ∙ sym n in
+held-facts (held-some {s} {buffer} front key before last st) =
+    let n : length (ending front key before last) ≡ length front + 1 = length-append front (entry key (before ++ (last ∷ [])) ∷ []) in
+    let c : s .keys ≡ length (ending front key before last) = st .counted ∙ sym n in
     record {
-      fitting = fits-given s buffer (keyed s buffer front key older newest st) (fitting s buffer front key older newest st);
+      fitting = fits-given s buffer (keyed s buffer front key before last st) (fitting s buffer front key before last st);
       bytes = st .bytes;
       counted = c;
       few = omega (arith, st .few);
@@ -115,10 +114,29 @@ held-facts (held-some {s} {buffer} front key older newest st) =
 pub taken-facts : {s : PointBuilder} {buffer : List ℕ} {table : List Entry} → Taken s buffer table → TakenFacts s buffer table
 taken-facts t = held-facts (taken-held t)
 
--- ---- THEOREM: the keys of a taken list are bytes
+-- ---- THEOREM: the state of a taken list is fixed by its table
 
-abbrev pub KeyBytes : Entry → Type 0
-KeyBytes e = AllBytes (e .key)
+-- used: the table's bytes; keys: its entries; head: where its last entry begins
+abbrev pub stateFor : List Entry → PointBuilder
+stateFor table = record { used = length (tableBytes table); keys = length table; head = length (tableBytes (take (length table - 1) table)) }
+
+held-state : {s : PointBuilder} {buffer : List ℕ} {table : List Entry} → Held s buffer table → s ≡ stateFor table
+unfolding tableBytes
+held-state held-none = refl
+held-state (held-some {s} {buffer} front key before last st) =
+    let e = entry key (before ++ (last ∷ [])) in
+    let n : length (front ++ (e ∷ [])) ≡ length front + 1 = length-append front (e ∷ []) in
+    let u : s .used ≡ length (tableBytes (front ++ (e ∷ []))) = sym (length-take-le (s .used) buffer (st .inside)) ∙ ap length (st .bytes) in
+    let c : s .keys ≡ length (front ++ (e ∷ [])) = st .counted ∙ sym n in
+    let m : length front ≡ length (front ++ (e ∷ [])) - 1 = omega arith in
+    let f : take (length (front ++ (e ∷ [])) - 1) (front ++ (e ∷ [])) ≡ front = take-at front (e ∷ []) _ m in
+    let h : s .head ≡ length (tableBytes (take (length (front ++ (e ∷ [])) - 1) (front ++ (e ∷ [])))) = st .headed ∙ ap (λ (l : List Entry). length (tableBytes l)) (sym f) in
+    rw (← h, ← u, ← c)
+
+pub taken-state : {s : PointBuilder} {buffer : List ℕ} {table : List Entry} → Taken s buffer table → s ≡ stateFor table
+taken-state t = held-state (taken-held t)
+
+-- ---- THEOREM: the keys of a taken list are bytes
 
 pub taken-keys : {s : PointBuilder} {buffer : List ℕ} {table : List Entry} → Taken s buffer table → Each KeyBytes table
 unfolding tableAfterAdd tableAfterSet
@@ -138,18 +156,18 @@ last-same (a ∷ []) [] x y e = cc
 last-same (a ∷ c ∷ xs) [] x y e = cc
 last-same {A} (a ∷ xs) (b ∷ ys) x y e = let t : xs ++ (x ∷ []) ≡ ys ++ (y ∷ []) = cc in last-same xs ys x y t
 
-held-last : {s : PointBuilder} {buffer : List ℕ} {table : List Entry} (front : List Entry) (key : List ℕ) (older : List Record) (newest : Record) → Held s buffer table → table ≡ ending front key older newest
-    → (s .keys ≡ 0 → ⊥) × (lastOf s buffer ≡ record { key = key; sequence = newest .sequence; versions = length (older ++ (newest ∷ [])) })
-held-last [] key older newest held-none e = absurd (let z : _≡_ {A = ℕ} 0 1 = cc in omega arith)
-held-last (f ∷ front) key older newest held-none e = absurd (let z : _≡_ {A = ℕ} 0 1 = cc in omega arith)
-held-last front key older newest (held-some {s} {buffer} front' key' older' newest' st) e =
-    let x : entry key' (older' ++ (newest' ∷ [])) ≡ entry key (older ++ (newest ∷ [])) = last-same front' front _ _ e in
+held-last : {s : PointBuilder} {buffer : List ℕ} {table : List Entry} (front : List Entry) (key : List ℕ) (before : List Record) (last : Record) → Held s buffer table → table ≡ ending front key before last
+    → (s .keys ≡ 0 → ⊥) × (lastOf s buffer ≡ record { key = key; sequence = last .sequence; versions = length (before ++ (last ∷ [])) })
+held-last [] key before last held-none e = absurd (let z : _≡_ {A = ℕ} 0 1 = cc in omega arith)
+held-last (f ∷ front) key before last held-none e = absurd (let z : _≡_ {A = ℕ} 0 1 = cc in omega arith)
+held-last front key before last (held-some {s} {buffer} front' key' before' last' st) e =
+    let x : entry key' (before' ++ (last' ∷ [])) ≡ entry key (before ++ (last ∷ [])) = last-same front' front _ _ e in
     let k : key' ≡ key = ap (λ (z : Entry). z .key) x in
-    let v : older' ++ (newest' ∷ []) ≡ older ++ (newest ∷ []) = ap (λ (z : Entry). z .versions) x in
-    let n : newest' ≡ newest = last-same older' older newest' newest v in
-    let l = last-read s buffer front' key' older' newest' st in
-    (keyed s buffer front' key' older' newest' st, rw (← k, ← v, ← n) l)
+    let v : before' ++ (last' ∷ []) ≡ before ++ (last ∷ []) = ap (λ (z : Entry). z .versions) x in
+    let n : last' ≡ last = last-same before' before last' last v in
+    let l = last-read s buffer front' key' before' last' st in
+    (keyed s buffer front' key' before' last' st, rw (← k, ← v, ← n) l)
 
-pub taken-last : {s : PointBuilder} {buffer : List ℕ} (front : List Entry) (key : List ℕ) (older : List Record) (newest : Record) → Taken s buffer (ending front key older newest)
-    → (s .keys ≡ 0 → ⊥) × (lastOf s buffer ≡ record { key = key; sequence = newest .sequence; versions = length (older ++ (newest ∷ [])) })
-taken-last front key older newest t = held-last front key older newest (taken-held t) refl
+pub taken-last : {s : PointBuilder} {buffer : List ℕ} (front : List Entry) (key : List ℕ) (before : List Record) (last : Record) → Taken s buffer (ending front key before last)
+    → (s .keys ≡ 0 → ⊥) × (lastOf s buffer ≡ record { key = key; sequence = last .sequence; versions = length (before ++ (last ∷ [])) })
+taken-last front key before last t = held-last front key before last (taken-held t) refl

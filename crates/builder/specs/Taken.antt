@@ -4,7 +4,7 @@ use Prim.Native.Nat.{ℕ, _^_, _<_}
 use mathlib.Core.Path.{_≡_}
 use mathlib.Core.Bool.{Bool, cond}
 use mathlib.Core.List.{List, [], _∷_, _++_}
-use lib.ListN.{getD}
+use lib.ListN.{length, getD, drop}
 use Rattle.records.specs.declared.Kind.{Kind}
 use Rattle.records.specs.declared.Record.{Record}
 use Rattle.records.specs.Model.{Entry}
@@ -14,6 +14,18 @@ use Rattle.builder.specs.declared.OffsetSet.the-variants.{Set}
 use Rattle.builder.specs.State.{emptyBuilder}
 use Rattle.builder.specs.Add.{recordOf, newEntry, addOf, bufferAfterAdd}
 use Rattle.builder.specs.SetOffset.{setOf, bufferAfterSet}
+
+-- an entry: a key with its versions
+abbrev pub entry : List ℕ → List Record → Entry
+entry key versions = record { key = key; versions = versions }
+
+-- a table with a last record: the entries before the last one, and of that one the key, the versions before the last, and the last version
+abbrev pub ending : List Entry → List ℕ → List Record → Record → List Entry
+ending front key before last = front ++ (entry key (before ++ (last ∷ [])) ∷ [])
+
+-- the key of an entry is bytes
+abbrev pub KeyBytes : Entry → Type 0
+KeyBytes e = (i : ℕ) → getD (e .key) i 0 < 256
 
 -- a list with its last element changed
 unfoldable pub onLast : {A : Type 0} → (A → A) → List A → List A
@@ -52,3 +64,11 @@ pub data Taken : PointBuilder → List ℕ → List Entry → Type 0 where
       → Taken s buffer table → offset < 2 ^ 64
       → setOf s buffer place ≡ Set
       → Taken s (bufferAfterSet s buffer place offset) (tableAfterSet table offset)
+
+-- a list that is taken into a buffer: its length is kept, and nothing behind the used bytes is changed
+pub record TakenInto (buffer : List ℕ) (table : List Entry) : Type 0 where
+  pub state : PointBuilder
+  pub after : List ℕ
+  pub taken : Taken state after table
+  pub behind : drop (state .used) after ≡ drop (state .used) buffer
+  pub whole : length after ≡ length buffer

@@ -8,8 +8,8 @@ use mathlib.Core.Bool.{Bool, true, false, cond}
 use mathlib.Core.List.{List, [], _∷_, _++_, flatMap}
 use mathlib.Core.Option.{Option, none, some}
 use mathlib.Core.Logic.{⊎-elim}
-use lib.ListN.{length, getD, take, drop, List·getD-append, List·getD-eq-default}
-use lib.Seq.{drop-at, getD-append-add}
+use lib.ListN.{length, getD, take, drop, List·getD-eq-default}
+use lib.Seq.{drop-at}
 use borrow.Author.Tests.{eq-eqb, ne-eqb, le-ltb, lt-leb}
 use Rattle.laws.specs.Cases.{lt-or-ge}
 use Rattle.laws.specs.Each.{Each}
@@ -17,7 +17,7 @@ use Rattle.laws.specs.Each.Each.{each-none, each-more}
 use Rattle.laws.specs.RefusalLaws.{orElse-zero}
 use Rattle.words.specs.Field.{bytesOf}
 use Rattle.words.specs.Part.{sameAs}
-use Rattle.words.proofs.Laws.{AllBytes, bytes-bytesOf}
+use Rattle.words.proofs.Laws.{AllBytes, bytes-bytesOf, bytes-append}
 use Rattle.words.proofs.Ordered.{same-self}
 use Rattle.mixing.specs.Mixing.{hashOf, fingerprintOf, seedOf, bucketOf, bucketOf-lt, seedOf-lt}
 use Rattle.mixing.specs.Slots.{some-buckets}
@@ -127,14 +127,6 @@ pilot-low hs pilots P k l = go (size hs k) refl
     go (suc (suc y)) e = let s = P .several k l (omega arith) in omega (arith, s .tried)
 
 -- ---- bytes
-
-bytes-append : (xs ys : List ℕ) → AllBytes xs → AllBytes ys → AllBytes (xs ++ ys)
-bytes-append xs ys a b i =
-    ⊎-elim (λ (l : i < length xs). rw (List·getD-append xs ys 0 i l) (a i))
-    (λ (l : length xs ≤ i).
-    let e : i ≡ length xs + (i - length xs) = omega arith in
-    subst (λ (x : ℕ). getD (xs ++ ys) x 0 < 256) (sym e) (rw (getD-append-add xs ys (i - length xs) 0) (b (i - length xs))))
-    (lt-or-ge i (length xs))
 
 -- a list of bytes
 record Bytes (xs : List ℕ) : Type 0 where

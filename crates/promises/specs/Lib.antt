@@ -1,12 +1,14 @@
 -- What is promised, in the order to read: `Refused` (demand 1, each number exactly for its cause and nothing lent changed), `Answers` (number
 -- and values of each answer that is no refusal), `Boundary` (demand 1 of the C boundary's own refusals), `Accepted` (demand 3 of any bytes that
--- validation accepts), `Finished` (demand 3 of a list that was taken and finished), `Filter` (demand 3 of a filter), `Listed` (what the desk
--- reads), `Unique` (each call's result is fixed), `Figures` (P1 to P9, over the list in records' `Example`), and `IdleAdd`, `IdleIndex`,
--- `IdleFilter` (the idle programs, each shut out on a concrete input).
+-- validation accepts), `Taken` (taken lists, and that no call adds versions oldest first), `Finished` (demand 3 of a list that was taken and
+-- finished), `Filter` (demand 3 of a filter), `Listed` (what the desk reads), `Unique` (each call's result is fixed), `Example` (document 01's
+-- example, finished, accepted and listed, byte for byte), `Figures` (P1 to P9), and `IdleAdd`, `IdleIndex`, `IdleFilter` (the idle programs,
+-- each shut out on a concrete input).
 pub mod Refused
 pub mod Answers
 pub mod Boundary
 pub mod Accepted
+pub mod Taken
 pub mod Finished
 pub mod Filter
 pub mod Listed
