@@ -1,10 +1,10 @@
 -- An attempt fails exactly where two members of a bucket have equal hashes, or a bucket of two or more finds no pilot. Assumes nothing.
-use Prim.Native.Nat.{ℕ, _-_, _<_}
+use Prim.Native.Nat.{ℕ, _-_, _≤_, _<_}
 use mathlib.Core.Path.{_≡_, refl, sym, ap, _∙_, subst}
 use mathlib.Core.Bool.{Bool, true, false, cond}
 use mathlib.Core.List.{List}
 use mathlib.Core.Option.{none, some, Option·map, map-eq-none-iff, Option·some-ne-none}
-use mathlib.Core.Logic.{_⊎_, inl, inr}
+use mathlib.Core.Logic.{inl, inr}
 use native.Mathlib.Omega.{arith}
 use native.Mathlib.Decide.{ℕ-discrete, decLt}
 use native.Mathlib.Numerals.{lt-of-le-of-ne}
@@ -14,11 +14,20 @@ use Rattle.mixing.specs.Mixing.{bucketOf, bucketOf-lt}
 use Rattle.mixing.specs.Slots.{some-buckets}
 use Rattle.laws.specs.Steps.{steps, steps-why, least, least-none, least-of-none, any-some, any-why}
 use Rattle.construct.specs.Construct.{bucketsOf, tries, members, group, size, alike, met, twins, twinsAt, anyTwins, seat, Placing, noted, placeGroup, placeOf, placeSize, placeDown, largest, blank, attemptFrom, attemptOf}
-use Rattle.construct.specs.Promised.{Turn, EqualHashes, NoPilot}
+use Rattle.construct.specs.Promised.{Turn, EqualHashes, NoPilot, AttemptFails}
 use Rattle.construct.proofs.Placed.{member-of, key-place, of-skips, of-one, of-several}
 use Rattle.construct.proofs.PlacesLaws.{member-rank}
 use Rattle.construct.proofs.FitsLaws.{unseated, unfit}
 use Rattle.construct.proofs.TurnsLaws.{turn-spots, slot-free, turn-fails}
+
+-- the pilots that are tried are 0 to 99,999
+low-tried : (p : ℕ) → p ≤ 99999 → p < tries
+unfolding tries
+low-tried p l = omega arith
+
+tried-low : (p : ℕ) → p < tries → p ≤ 99999
+unfolding tries
+tried-low p l = omega arith
 
 module _ (hs : List ℕ) where
   -- equal hashes among the members of bucket k, at places i and j
@@ -94,7 +103,12 @@ module _ (hs : List ℕ) (pos : 0 < length hs) where
       (of-several hs (size hs (N .bucket)) (N .bucket) (N .placing) refl (λ e. omega (arith, e, N .two))
       ∙ ap (Option·map (noted (N .bucket) 0 (N .placing)))
       (least-of-none (λ p. seat hs (group hs (N .bucket)) p (size hs (N .bucket)) (N .placing .slots)) tries
-      (λ p l. unfit hs (group hs (N .bucket)) p (N .placing .slots) (turn-spots hs pos (N .bucket) (N .low) (N .placing) (N .turn) p) (N .none-fits p l))))
+      (λ p l. unfit hs (group hs (N .bucket)) p (N .placing .slots) (turn-spots hs pos (N .bucket) (N .low) (N .placing) (N .turn) p) (N .none-fits p (tried-low p l)))))
+
+  -- EITHER fails the attempt
+  pub fails-attempt : AttemptFails hs → attemptOf hs ≡ none
+  fails-attempt (inl E) = equal-hashes-fail E
+  fails-attempt (inr N) = no-pilot-fails N
 
   -- a bucket that cannot be placed in its turn is of two or more, and finds no pilot
   stuck : (k : ℕ) → k < bucketsOf (length hs) → (pl : Placing) → Turn hs k pl → 0 < size hs k → placeOf hs (size hs k) k pl ≡ none → NoPilot hs
@@ -114,7 +128,7 @@ module _ (hs : List ℕ) (pos : 0 < length hs) where
         two = lt-of-le-of-ne some-size (λ z. e (sym z));
         placing = pl;
         turn = T;
-        none-fits = λ p l F. unseated hs (group hs k) p (pl .slots) (turn-spots hs pos k low pl T p) (none-fits e p l) F;
+        none-fits = λ p l F. unseated hs (group hs k) p (pl .slots) (turn-spots hs pos k low pl T p) (none-fits e p (low-tried p l)) F;
       }
 
   passes-stuck : steps (placeDown hs (largest hs)) (largest hs) (blank hs) ≡ none → NoPilot hs
@@ -141,10 +155,10 @@ module _ (hs : List ℕ) (pos : 0 < length hs) where
               (subst (λ (s : ℕ). placeOf hs s k pl ≡ none) (sym d) z)
 
   -- AN ATTEMPT FAILS FOR NOTHING ELSE, and so never for want of a free slot
-  pub attempt-fails : attemptOf hs ≡ none → EqualHashes hs ⊎ NoPilot hs
+  pub attempt-fails : attemptOf hs ≡ none → AttemptFails hs
   unfolding attemptOf attemptFrom
   attempt-fails h = go (anyTwins hs) refl h
     where
-      go : (t : Bool) → anyTwins hs ≡ t → cond t none (steps (placeDown hs (largest hs)) (largest hs) (blank hs)) ≡ none → EqualHashes hs ⊎ NoPilot hs
+      go : (t : Bool) → anyTwins hs ≡ t → cond t none (steps (placeDown hs (largest hs)) (largest hs) (blank hs)) ≡ none → AttemptFails hs
       go true e z = inl (twins-equal hs e)
       go false e z = inr (passes-stuck z)

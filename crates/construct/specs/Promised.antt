@@ -1,8 +1,9 @@
 -- What is promised of an attempt, in the words of document 01, "Arithmetic and construction".
-use Prim.Native.Nat.{ℕ, suc, _+_, _-_, _<_}
+use Prim.Native.Nat.{ℕ, suc, _+_, _-_, _≤_, _<_}
 use mathlib.Core.Path.{_≡_}
 use mathlib.Core.List.{List}
 use mathlib.Core.Option.{some}
+use mathlib.Core.Logic.{_⊎_}
 use lib.ListN.{length, getD}
 use Rattle.mixing.specs.Mixing.{bucketOf}
 use Rattle.laws.specs.Steps.{steps}
@@ -28,14 +29,18 @@ pub record EqualHashes (hs : List ℕ) : Type 0 where
   pub bucket : bucketOf (getD hs one 0) (bucketsOf (length hs)) ≡ bucketOf (getD hs other 0) (bucketsOf (length hs))
   pub equal : getD hs one 0 ≡ getD hs other 0
 
--- a bucket of two or more finds no pilot
+-- a bucket of two or more finds no pilot in 0 to 99,999 that puts its members on distinct unoccupied positions
 pub record NoPilot (hs : List ℕ) : Type 0 where
   pub bucket : ℕ
   pub low : bucket < bucketsOf (length hs)
   pub two : 1 < size hs bucket
   pub placing : Placing
   pub turn : Turn hs bucket placing
-  pub none-fits : (p : ℕ) → p < tries → Fits hs (group hs bucket) p (placing .slots) → ⊥
+  pub none-fits : (p : ℕ) → p ≤ 99999 → Fits hs (group hs bucket) p (placing .slots) → ⊥
+
+-- an attempt fails if two members of a bucket have equal hashes, or if a bucket of two or more finds no pilot
+abbrev pub AttemptFails : List ℕ → Type 0
+AttemptFails hs = EqualHashes hs ⊎ NoPilot hs
 
 -- every key is found at its index, and every slot holds exactly one key
 pub record Whole (hs : List ℕ) (pl : Placing) : Type 0 where

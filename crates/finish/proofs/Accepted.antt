@@ -29,7 +29,7 @@ use Rattle.records.specs.Places.{keyAt, entriesFrom, entryPlace}
 use Rattle.records.specs.Rules.{unslotted}
 use Rattle.records.specs.Tables.{RecordRules, EntryRules, TableRules, InData, EntryInData, TableInData}
 use Rattle.records.proofs.PassedLaws.{entries-count, place-rises, walk-ends}
-use Rattle.records.proofs.Theorems.{read-back, read-whole, table-few}
+use Rattle.records.proofs.Theorems.{read-back, read-whole, table-few, table-most}
 use Rattle.construct.specs.Construct.{bucketsOf, tries, direct, size, Placing, slotBy, indexOf}
 use Rattle.construct.specs.Keys.{keyOf, attemptHashes}
 use Rattle.construct.specs.Promised.{Whole, Pilots}
@@ -55,14 +55,13 @@ use Rattle.finish.proofs.FieldLaws.{magic-read, seed-read, keys-read, b
 
 -- ---- an arena that finish takes
 
-pub record Made (arena : List ℕ) (out : ℕ) : Type 0 where
+pub record Made (arena : List ℕ) : Type 0 where
   pub attempt : ℕ
   pub placing : Placing
   pub taken : placedOf arena (keysOf arena) ≡ some (attempt, placing)
   pub whole : walked arena .end ≡ length arena
   pub any : 0 < keysOf arena
   pub most : keysOf arena ≤ 65536
-  pub room : arenaStart (keysOf arena) + length arena ≤ out
 
 module _ (arena : List ℕ) (out wide narrow k : ℕ) where
   -- a body is answered where nothing refuses, with its length
@@ -74,7 +73,7 @@ module _ (arena : List ℕ) (out wide narrow k : ℕ) where
       go zero q = (refl, let z : bodyLength arena (keysOf arena) ≡ k = cc in sym z)
       go (suc r) q = absurd (let z : _≡_ {A = ℕ} 0 1 = cc in omega arith)
 
-  pub made : finishOf arena out wide narrow ≡ Body k → Made arena out
+  pub made : finishOf arena out wide narrow ≡ Body k → Made arena
   unfolding placingRefusal
   made e = go (placedOf arena (keysOf arena)) refl (passes (unplaced (placedOf arena (keysOf arena))) 9 _ (both .1) .0)
     where
@@ -84,9 +83,9 @@ module _ (arena : List ℕ) (out wide narrow k : ℕ) where
       L : Lengths (length arena) (walked arena .end) (keysOf arena) out wide narrow
       L = lengths (length arena) (walked arena .end) (keysOf arena) out wide narrow (both .0)
 
-      go : (o : Option (ℕ × Placing)) → placedOf arena (keysOf arena) ≡ o → unplaced o ≡ false → Made arena out
+      go : (o : Option (ℕ × Placing)) → placedOf arena (keysOf arena) ≡ o → unplaced o ≡ false → Made arena
       go none q z = absurd (let t : _≡_ {A = ℕ} 0 1 = cc in omega arith)
-      go (some (i, pl)) q z = record { attempt = i; placing = pl; taken = q; whole = L .whole; any = L .some; most = L .few; room = L .room }
+      go (some (i, pl)) q z = record { attempt = i; placing = pl; taken = q; whole = L .whole; any = L .some; most = L .few }
 
 -- ---- the rules, with a data length
 
@@ -160,7 +159,7 @@ body-bytes arena n seed pl all =
 
 -- ---- the body
 
-module _ (arena : List ℕ) (out : ℕ) (M : Made arena out) (all : AllBytes arena) (fits : out < 2 ^ 64) where
+module _ (arena : List ℕ) (M : Made arena) (all : AllBytes arena) where
   n : ℕ
   n = keysOf arena
 
@@ -286,12 +285,17 @@ module _ (arena : List ℕ) (out : ℕ) (M : Made arena out) (all : AllBytes are
       let f : getD (M .placing .slots) s 0 ≡ suc j = ap (λ (x : ℕ). getD (M .placing .slots) x 0) (e ∙ ap (indexOf (getD hs j 0) (M .placing .pilots)) (sym hashes-many)) ∙ whole .found j (omega (arith, hashes-many)) in
       (f, ⊎-elim (λ (z : s < length (M .placing .slots)). z) (λ (z : length (M .placing .slots) ≤ s). absurd (omega (arith, f, List·getD-eq-default (M .placing .slots) 0 z))) (lt-or-ge s (length (M .placing .slots))))
 
+  -- at most 65,536 keys within the rules: fewer than 2^64 bytes
+  arena-low : length arena < 2 ^ 64
+  unfolding t
+  arena-low = omega (arith, ap length table-bytes, table-most Untested t (table-rules .entries), entries-count arena 0 (keysOf arena), M .most)
+
   -- every place is below 2^64
   place-low : (j : ℕ) → j < n → entryPlace arena 0 j < 2 ^ 64
   unfolding n walked
   place-low j l =
       let e : walked arena .end ≡ entryPlace arena 0 (keysOf arena) = walk-ends unslotted arena Untested 0 0 (length arena) in
-      omega (arith, place-rises arena 0 j (keysOf arena) l, e, M .whole, M .room, fits)
+      omega (arith, place-rises arena 0 j (keysOf arena) l, e, M .whole, arena-low)
 
   -- slot s, where it holds key j
   offset-of : (s : ℕ) → s < length (M .placing .slots) → (j : ℕ) → getD (M .placing .slots) s 0 - 1 ≡ j → j < n → recordOffset body (slotPlace body s) ≡ entryPlace arena 0 j
@@ -350,28 +354,33 @@ module _ (arena : List ℕ) (out : ℕ) (M : Made arena out) (all : AllBytes are
       (ap₂ drop start-of split ∙ drop-at front arena (length front) refl ∙ table-bytes)
       (table-in cover t table-rules h) (λ j l. belongs j (omega (arith, keys-of)))
 
-module _ (arena : List ℕ) (out wide narrow k : ℕ) (all : AllBytes arena) (fits : out < 2 ^ 64) (e : finishOf arena out wide narrow ≡ Body k) where
+module _ (arena : List ℕ) (out wide narrow k : ℕ) (all : AllBytes arena) (e : finishOf arena out wide narrow ≡ Body k) where
   -- THEOREM: for any arena that finish takes, the body is accepted with any data length that covers its records
   pub finish-accepted : (cover : ℕ) → TableInData cover (entriesFrom arena 0 (keysOf arena)) → validateOf (bodyOf arena (keysOf arena)) cover ≡ Accepted
   unfolding body t
-  finish-accepted cover h = ap (λ (z : List ℕ). validateOf z cover) (body-is arena out (made arena out wide narrow k e) all fits) ∙ made-accepted arena out (made arena out wide narrow k e) all fits cover h
+  finish-accepted cover h = ap (λ (z : List ℕ). validateOf z cover) (body-is arena (made arena out wide narrow k e) all) ∙ made-accepted arena (made arena out wide narrow k e) all cover h
 
   -- THEOREM: its table is the arena's table
   pub finish-table : tableOf (bodyOf arena (keysOf arena)) ≡ entriesFrom arena 0 (keysOf arena)
   unfolding body t
-  finish-table = ap tableOf (body-is arena out (made arena out wide narrow k e) all fits) ∙ table-same arena out (made arena out wide narrow k e) all fits
+  finish-table = ap tableOf (body-is arena (made arena out wide narrow k e) all) ∙ table-same arena (made arena out wide narrow k e) all
 
   -- THEOREM: it is as long as finish answers
   pub finish-length : length (bodyOf arena (keysOf arena)) ≡ k
   unfolding body n
   finish-length =
-      ap length (body-is arena out (made arena out wide narrow k e) all fits) ∙ long arena out (made arena out wide narrow k e) all fits
+      ap length (body-is arena (made arena out wide narrow k e) all) ∙ long arena (made arena out wide narrow k e) all
       ∙ sym (body-answered arena out wide narrow k e .1)
+
+  -- it is bytes
+  pub finish-bytes : AllBytes (bodyOf arena (keysOf arena))
+  finish-bytes =
+      let M = made arena out wide narrow k e in
+      subst AllBytes (sym (body-is arena M all)) (body-bytes arena (keysOf arena) (seedOf (M .attempt)) (M .placing) all)
 
   -- THEOREM: get on it is the lookup in the arena's table
   pub finish-get : (cover : ℕ) → TableInData cover (entriesFrom arena 0 (keysOf arena)) → (key : List ℕ) (limit : Limit)
       → getOf (bodyOf arena (keysOf arena)) cover key limit ≡ answerTo (lookup (entriesFrom arena 0 (keysOf arena)) key limit)
   finish-get cover h key limit =
-      let M = made arena out wide narrow k e in
-      get-is-lookup (bodyOf arena (keysOf arena)) cover (finish-accepted cover h) (subst AllBytes (sym (body-is arena out M all fits)) (body-bytes arena (keysOf arena) (seedOf (M .attempt)) (M .placing) all)) key limit
+      get-is-lookup (bodyOf arena (keysOf arena)) cover (finish-accepted cover h) finish-bytes key limit
       ∙ ap (λ (z : List Entry). answerTo (lookup z key limit)) finish-table

@@ -1,18 +1,17 @@
 -- Idle indexes are shut out: a finish that answers 10 each time, a get that always says nothing, an index that places only its first key.
 -- Assumes nothing.
-use Prim.Native.Nat.{ℕ, zero, suc, _+_, _^_, _≤_, _<_}
+use Prim.Native.Nat.{ℕ, zero, suc, _+_, _≤_, _<_}
 use native.Mathlib.Omega.{arith}
 use mathlib.Core.Path.{_≡_, refl, sym, ap, _∙_, subst}
-use mathlib.Core.Bool.{Bool, true, cond, _&&_, and-eq-true-iff}
+use mathlib.Core.Bool.{Bool, true, _&&_, and-eq-true-iff}
 use mathlib.Core.List.{List, [], _∷_}
 use mathlib.Core.Logic.{_⊎_, inl, inr}
 use mathlib.Core.Option.{Option·some-ne-none}
 use borrow.Author.Tests.{ltb-true}
-use lib.Dec.{eqb, ltb}
+use lib.Dec.{ltb}
 use lib.ListN.{length, take}
-use lib.Seq.{take-at}
 use Rattle.laws.specs.Each.{Each, each-none, each-more}
-use Rattle.words.specs.Field.{spelled, le, bytesOf, splice}
+use Rattle.words.specs.Field.{spelled, le, bytesOf}
 use Rattle.words.specs.Part.{orderOf, sameAs}
 use Rattle.words.proofs.Laws.{AllBytes}
 use Rattle.mixing.specs.Mixing.{hashOf, seedOf}
@@ -37,11 +36,12 @@ use Rattle.point.specs.Validate.{validateOf}
 use Rattle.point.proofs.SlotLaws.{slot-owner, owner-slot}
 use Rattle.finish.specs.declared.Finished.{Finished}
 use Rattle.finish.specs.declared.Finished.the-variants.{Body, Refused}
-use Rattle.finish.specs.Body.{arenaStart, bodyOf}
-use Rattle.finish.specs.Finish.{walked, keysOf, lengthsRefusal, finishRefusal, answered, bodyLength, finishOf, outAfter, FinishPost, finishedNumber}
+use Rattle.finish.specs.Body.{arenaStart}
+use Rattle.finish.specs.Finish.{walked, keysOf, lengthsRefusal, answered, bodyLength, finishOf, FinishPost, finishedNumber}
 use Rattle.finish.proofs.LengthLaws.{length-fits}
 use Rattle.finish.proofs.Answers.{finish-number, ten-fails, body-or-ten}
-use Rattle.finish.proofs.Accepted.{finish-accepted, finish-table, finish-length, finish-get}
+use Rattle.finish.proofs.Accepted.{finish-accepted, finish-table, finish-get}
+use Rattle.promises.specs.Finished.{output-body}
 
 -- ---- the two lists
 
@@ -89,27 +89,13 @@ two-bytes = bytes-tested twoArena refl
 
 -- ---- the output of a finish that answers a body
 
-module _ {arena o w u o' w' u' : List ℕ} {k : ℕ} (all : AllBytes arena) (lent : length o < 2 ^ 64) (P : FinishPost arena o w u (Body k) o' w' u') where
-  no-refusal : finishRefusal arena (length o) (length w) (length u) ≡ 0
-  no-refusal = sym (finish-number arena (length o) (length w) (length u)) ∙ ap finishedNumber (sym (P .answer))
-
-  output-splice : o' ≡ splice o 0 (bodyOf arena (keysOf arena))
-  unfolding outAfter
-  output-splice = P .out ∙ ap (λ (x : ℕ). cond (eqb x 0) (splice o 0 (bodyOf arena (keysOf arena))) o) no-refusal
-
-  -- THEOREM: the bytes that finish answers are the body, in front of the output
-  pub output-body : take k o' ≡ bodyOf arena (keysOf arena)
-  unfolding splice
-  output-body =
-      ap (take k) output-splice
-      ∙ take-at (bodyOf arena (keysOf arena)) _ k (finish-length arena (length o) (length w) (length u) k all lent (sym (P .answer)))
-
-  -- THEOREM: get on them is the lookup in the arena's table
+module _ {arena o w u o' w' u' : List ℕ} {k : ℕ} (all : AllBytes arena) (P : FinishPost arena o w u (Body k) o' w' u') where
+  -- THEOREM: get on its bytes is the lookup in the arena's table
   pub output-get : (table : List Entry) → entriesFrom arena 0 (keysOf arena) ≡ table → (cover : ℕ) → TableInData cover table → (key : List ℕ)
       → getOf (take k o') cover key None ≡ answerTo (lookup table key None)
   output-get table t cover inside key =
-      ap (λ (b : List ℕ). getOf b cover key None) output-body
-      ∙ finish-get arena (length o) (length w) (length u) k all lent (sym (P .answer)) cover (subst (TableInData cover) (sym t) inside) key None
+      ap (λ (b : List ℕ). getOf b cover key None) (output-body all P)
+      ∙ finish-get arena (length o) (length w) (length u) k all (sym (P .answer)) cover (subst (TableInData cover) (sym t) inside) key None
       ∙ ap (λ (x : List Entry). answerTo (lookup x key None)) t
 
 -- ---- one key
@@ -146,7 +132,6 @@ never-ten {o} {w} {u} P = one-number (length o) (length w) (length u) (ap finish
 -- room for one key: a body of 78 bytes, 2 words of 64 bits, 16 of 32
 pub record OneRoom (o w u : List ℕ) : Type 0 where
   pub out : 78 ≤ length o
-  pub lent : length o < 2 ^ 64
   pub wide : 2 ≤ length w
   pub narrow : 16 ≤ length u
 
@@ -173,7 +158,7 @@ module _ {o w u o' w' u' : List ℕ} {r : Finished} (R : OneRoom o w u) (P : Fin
   -- THEOREM: get finds the key in what was written
   pub one-found : getOf (take 78 o') 8 (65 ∷ []) None ≡ Found (putOf 9 0)
   unfolding oneTable lookup recordsOf greatest better within sameAs
-  one-found = output-get one-bytes (R .lent) one-post oneTable one-entries 8 (each-more (put-inside 8 9 0 (omega arith)) each-none) (65 ∷ [])
+  one-found = output-get one-bytes one-post oneTable one-entries 8 (each-more (put-inside 8 9 0 (omega arith)) each-none) (65 ∷ [])
 
   -- THEOREM: a get that always says nothing is shut out
   pub never-nothing : getOf (take 78 o') 8 (65 ∷ []) None ≡ Nothing → ⊥
@@ -185,7 +170,7 @@ two-entries : entriesFrom twoArena 0 (keysOf twoArena) ≡ twoTable
 unfolding twoArena twoTable tableBytes entryBytes versionsBytes versionBytes bytesOf le spelled walked walkFrom entryRefusal keyRefusal keyRises keyAt orderOf versionsRefusal versionRefusal sequenceFalls entriesFrom entryAt versionsFrom recordAt
 two-entries = refl
 
-module _ {o w u o' w' u' : List ℕ} {k : ℕ} (lent : length o < 2 ^ 64) (P : FinishPost twoArena o w u (Body k) o' w' u') where
+module _ {o w u o' w' u' : List ℕ} {k : ℕ} (P : FinishPost twoArena o w u (Body k) o' w' u') where
   two-inside : TableInData 16 twoTable
   unfolding twoTable
   two-inside = each-more (put-inside 16 9 0 (omega arith)) (each-more (put-inside 16 7 8 (omega arith)) each-none)
@@ -194,21 +179,21 @@ module _ {o w u o' w' u' : List ℕ} {k : ℕ} (lent : length o < 2 ^ 64) (P : F
   pub both-found : (getOf (take k o') 16 (65 ∷ []) None ≡ Found (putOf 9 0)) × (getOf (take k o') 16 (66 ∷ []) None ≡ Found (putOf 7 8))
   unfolding twoTable lookup recordsOf greatest better within sameAs
   both-found = (
-    output-get two-bytes lent P twoTable two-entries 16 two-inside (65 ∷ []),
-    output-get two-bytes lent P twoTable two-entries 16 two-inside (66 ∷ []),
+    output-get two-bytes P twoTable two-entries 16 two-inside (65 ∷ []),
+    output-get two-bytes P twoTable two-entries 16 two-inside (66 ∷ []),
   )
 
   two-accepted : validateOf (take k o') 16 ≡ Accepted
   two-accepted =
-      ap (λ (b : List ℕ). validateOf b 16) (output-body two-bytes lent P)
-      ∙ finish-accepted twoArena (length o) (length w) (length u) k two-bytes lent (sym (P .answer)) 16 (subst (TableInData 16) (sym two-entries) two-inside)
+      ap (λ (b : List ℕ). validateOf b 16) (output-body two-bytes P)
+      ∙ finish-accepted twoArena (length o) (length w) (length u) k two-bytes (sym (P .answer)) 16 (subst (TableInData 16) (sym two-entries) two-inside)
 
   two-keys : keysIn (take k o') ≡ 2
   unfolding tableOf twoTable
   two-keys =
       sym (entries-count (take k o') (arenaIn (take k o')) (keysIn (take k o')))
       ∙ ap length
-      (ap tableOf (output-body two-bytes lent P) ∙ finish-table twoArena (length o) (length w) (length u) k two-bytes lent (sym (P .answer)) ∙ two-entries)
+      (ap tableOf (output-body two-bytes P) ∙ finish-table twoArena (length o) (length w) (length u) k two-bytes (sym (P .answer)) ∙ two-entries)
 
   -- THEOREM: each of its two slots belongs to exactly one of the two keys
   pub slots-owned : (s : ℕ) → s < 2 → OneBelow 2 (Belongs (take k o') s)

@@ -18,9 +18,11 @@ use Rattle.builder.specs.State.{fits, lastOf, roomOf}
 use Rattle.builder.specs.Add.{addCauses, addedNumber, AddPost}
 use Rattle.builder.specs.SetOffset.{setCauses, setNumber, SetPost}
 use Rattle.builder.proofs.Answers.{add-refuses, add-cause, cause-add, set-refuses, set-cause, cause-set}
+use Rattle.construct.specs.Keys.{attemptHashes}
+use Rattle.construct.specs.Promised.{AttemptFails}
 use Rattle.finish.specs.declared.Finished.{Finished}
-use Rattle.finish.specs.Finish.{lengthsRefusal, finishCauses, finishRefusal, finishedNumber, outAfter, spaceAfter, FinishPost}
-use Rattle.finish.proofs.Answers.{finish-number, cause-first, cause-given}
+use Rattle.finish.specs.Finish.{keysOf, lengthsRefusal, finishCauses, finishRefusal, finishedNumber, outAfter, spaceAfter, FinishPost}
+use Rattle.finish.proofs.Answers.{finish-number, cause-first, cause-given, ten-attempts, attempts-ten, never-eleven as eleven-never}
 use Rattle.point.specs.Validate.{validateOf, refusalNumber}
 use Rattle.point.specs.Get.{locateOf, openRecordOf, openOf, getOf, locatedNumber, openedNumber, answerNumber}
 use Rattle.point.specs.Causes.{ValidationStops, LocatingDamaged, RecordDamaged, OpeningDamaged, DamageMet}
@@ -93,6 +95,21 @@ module _ {arena o w u : List ℕ} {r : Finished} {o′ w′ u′ : List ℕ} (P 
 
   pub refused-finish : (n : ℕ) → First n (finishCauses arena (length o) (length w) (length u)) → finishedNumber r ≡ n
   refused-finish n f = ap finishedNumber (P .answer) ∙ cause-given arena (length o) (length w) (length u) n f
+
+  -- 10 all eight attempts failed: 8, 5, 9 and 6 come first and are not given, and for each of the eight seeds the attempt over the keys' hashes
+  -- under it fails: two members of a bucket have equal hashes, or a bucket of two or more finds no pilot in 0 to 99,999 that puts its members
+  -- on distinct unoccupied positions
+  pub ten-cause : finishedNumber r ≡ 10
+      → (lengthsRefusal arena (length o) (length w) (length u) ≡ 0) × ((i : ℕ) → i < 8 → AttemptFails (attemptHashes arena (keysOf arena) i))
+  ten-cause e = ten-attempts arena (length o) (length w) (length u) (sym (ap finishedNumber (P .answer)) ∙ e)
+
+  pub cause-ten : lengthsRefusal arena (length o) (length w) (length u) ≡ 0 → ((i : ℕ) → i < 8 → AttemptFails (attemptHashes arena (keysOf arena) i))
+      → finishedNumber r ≡ 10
+  cause-ten z f = ap finishedNumber (P .answer) ∙ attempts-ten arena (length o) (length w) (length u) z f
+
+  -- 11 self-check: what an attempt places passes it, so 11 is never given
+  pub never-eleven : finishedNumber r ≡ 11 → ⊥
+  never-eleven e = eleven-never arena (length o) (length w) (length u) (sym (ap finishedNumber (P .answer)) ∙ e)
 
   pub finish-space : SpaceLeft (lengthsRefusal arena (length o) (length w) (length u)) w w′ × SpaceLeft (lengthsRefusal arena (length o) (length w) (length u)) u u′
   finish-space = (space-left _ w w′ (P .wide), space-left _ u u′ (P .narrow))

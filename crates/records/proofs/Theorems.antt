@@ -9,13 +9,15 @@ use lib.ListN.{length, take, drop, length-append}
 use lib.Seq.{take-all}
 use lib.Dec.{eqb}
 use borrow.Author.Tests.{eq-eqb}
+use Rattle.laws.specs.Each.{Each}
+use Rattle.laws.specs.Each.Each.{each-none, each-more}
 use Rattle.words.proofs.Laws.{AllBytes}
 use Rattle.records.specs.declared.DataLength.{DataLength}
 use Rattle.records.specs.declared.Walked.{Walked}
 use Rattle.records.specs.Model.{Entry, tableBytes}
 use Rattle.records.specs.Places.{entriesFrom, entryPlace}
 use Rattle.records.specs.Rules.{unslotted}
-use Rattle.records.specs.Tables.{TableFits, TableRules}
+use Rattle.records.specs.Tables.{TableFits, EntryRules, TableRules}
 use Rattle.records.specs.Walk.{walkFrom}
 use Rattle.records.proofs.TableLaws.{table-fits}
 use Rattle.records.proofs.PassedLaws.{Passed, entries-count, passed-end, walk-passed, walk-ends, passed-walk, passed-whole}
@@ -92,3 +94,9 @@ pub table-few : (t : List Entry) → 8 * length t ≤ length (tableBytes t)
 unfolding tableBytes
 table-few [] = omega arith
 table-few (e ∷ es) = rw length-append (omega (arith, entry-size e, table-few es))
+
+-- entries that keep the rules have at most 8 + 1,048,576 + 21 × 4,294,967,295 bytes each
+pub table-most : (test : DataLength) (t : List Entry) → Each (EntryRules test) t → length (tableBytes t) ≤ length t * (8 + 1048576 + 21 * 4294967295)
+unfolding tableBytes
+table-most test [] each-none = omega arith
+table-most test (e ∷ es) (each-more r rs) = rw length-append (omega (arith, entry-size e, r .small, r .few, table-most test es rs))
