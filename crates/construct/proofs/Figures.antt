@@ -1,25 +1,22 @@
--- Small cases, computed from the definitions; what buckets and positions the hashes have is given. Assumes nothing.
+-- Small cases, computed from the definitions; what buckets the hashes have is given. Document 01's three keys, with nothing given: promises'
+-- `Example`. Assumes nothing.
 use Prim.Native.Nat.{ℕ}
 use mathlib.Core.Path.{_≡_}
 use mathlib.Core.List.{[], _∷_}
-use mathlib.Core.Option.{none, some, bind}
+use mathlib.Core.Option.{some, bind}
 use native.Mathlib.Omega.{arith}
-use Rattle.mixing.specs.Mixing.{bucketOf, positionOf, bucketOf-lt}
+use Rattle.mixing.specs.Mixing.{bucketOf, bucketOf-lt}
 use Rattle.laws.specs.Steps.{steps, least, anyBelow, greatest}
 use Rattle.construct.specs.Construct.{bucketsOf, tries, direct, members, group, size, alike, met, twins, twinsAt, anyTwins, settle, spot, seat, noted, placeGroup, placeSingle, placeOf, placeSize, placeDown, largest, blank, attemptFrom, attemptOf}
+
+-- of one bucket, every hash is in it
+pub one-bucket : (h : ℕ) → bucketOf h 1 ≡ 0
+one-bucket h = omega (arith, bucketOf-lt h 1 (omega arith))
 
 -- one key takes slot 0, named directly
 pub one-key : (h : ℕ) → attemptOf (h ∷ []) ≡ some (record { pilots = 2147483648 ∷ []; slots = 1 ∷ [] })
 unfolding attemptOf attemptFrom anyTwins twinsAt twins met alike anyBelow steps bind least greatest bucketsOf tries direct members group size settle spot seat noted placeGroup placeSingle placeOf placeSize placeDown largest blank
-one-key h =
-    let e : bucketOf h 1 ≡ 0 = omega (arith, bucketOf-lt h 1 (omega arith)) in
-    simp e
-
--- three keys of one bucket: pilot 0 would put two on one slot, pilot 1 seats them all
-pub three-keys : positionOf 1 0 3 ≡ 1 → positionOf 2 0 3 ≡ 1 → positionOf 1 1 3 ≡ 2 → positionOf 2 1 3 ≡ 1 → positionOf 4 1 3 ≡ 0
-    → (seat (1 ∷ 2 ∷ 4 ∷ []) (0 ∷ 1 ∷ 2 ∷ []) 0 3 (0 ∷ 0 ∷ 0 ∷ []) ≡ none) × (seat (1 ∷ 2 ∷ 4 ∷ []) (0 ∷ 1 ∷ 2 ∷ []) 1 3 (0 ∷ 0 ∷ 0 ∷ []) ≡ some (3 ∷ 2 ∷ 1 ∷ []))
-unfolding seat steps bind settle spot
-three-keys p q r s t = (simp (p, q), simp (r, s, t))
+one-key h = simp one-bucket
 
 -- four keys in two buckets, one of which has three members
 pub four-keys : bucketOf 1 2 ≡ 1 → bucketOf 2 2 ≡ 0 → bucketOf 3 2 ≡ 1 → bucketOf 9 2 ≡ 1 → (group (1 ∷ 2 ∷ 3 ∷ 9 ∷ []) 0 ≡ 1 ∷ []) × (group (1 ∷ 2 ∷ 3 ∷ 9 ∷ []) 1 ≡ 0 ∷ 2 ∷ 3 ∷ [])

@@ -2,23 +2,28 @@
 use Prim.Native.Nat.{ℕ, _-_, _^_}
 use mathlib.Core.Path.{_≡_, refl}
 use mathlib.Core.List.{List, [], _∷_}
-use Rattle.words.specs.Field.{spelled, le, bytesOf}
-use Rattle.words.specs.Part.{orderOf}
-use Rattle.records.specs.Model.{versionBytes, versionsBytes, entryBytes, tableBytes}
-use Rattle.records.specs.Places.{keyAt, entryPlace}
-use Rattle.records.specs.Rules.{keyRises, keyRefusal, sequenceFalls, versionRefusal, versionsRefusal, entryRefusal}
-use Rattle.records.specs.Walk.{walkFrom}
+use lib.ListN.{length}
+use Rattle.words.specs.Field.{spelled, le}
+use Rattle.records.specs.Places.{entryPlace}
+use Rattle.records.specs.Example.{exampleArena}
 use Rattle.construct.specs.Construct.{bucketsOf}
+use Rattle.layout.specs.Layout.{arenaIn}
+use Rattle.point.specs.Table.{keyPlace}
+use Rattle.finish.specs.declared.Finished.the-variants.{Body}
 use Rattle.finish.specs.Body.{arenaStart}
-use Rattle.finish.specs.Finish.{walked, keysOf, bodyLength}
-use Rattle.records.specs.Example.{exampleTable, exampleArena}
+use Rattle.finish.specs.Finish.{keysOf, finishOf}
 use Rattle.fuse.specs.Positions.{firstCell, cellOf, positionsOf}
 use Rattle.sizing.specs.Table.{firsts, segments}
 use Rattle.sizing.specs.Sizing.{rule, greatest, exponentOf, segmentOf, upTo, segmentsOf, cellsOf}
+use Rattle.promises.specs.Example.{exampleBody, example-keys, example-fits}
 
--- where the records of an arena's three keys begin
+-- where the record of a body's i-th key begins, counted from the arena start
+abbrev pub recordPlace : List ℕ → ℕ → ℕ
+recordPlace body i = keyPlace body i - arenaIn body
+
+-- those of three keys
 abbrev pub recordPlaces : List ℕ → List ℕ
-recordPlaces arena = entryPlace arena 0 0 ∷ entryPlace arena 0 1 ∷ entryPlace arena 0 2 ∷ []
+recordPlaces body = recordPlace body 0 ∷ recordPlace body 1 ∷ recordPlace body 2 ∷ []
 
 -- the segment, the number of segments and the cells for n hashes
 unfoldable pub filterSize : ℕ → List ℕ
@@ -28,8 +33,9 @@ pub record Figures : Type 0 where
   pub P1 : bucketsOf 1 ∷ bucketsOf 3 ∷ bucketsOf 4 ∷ [] ≡ 1 ∷ 1 ∷ 2 ∷ []
   pub P2 : arenaStart 1 ∷ arenaStart 3 ∷ [] ≡ 48 ∷ 72 ∷ []
   pub P3-keys : keysOf exampleArena ≡ 3
-  pub P3-body : bodyLength exampleArena (keysOf exampleArena) ≡ 204
-  pub P3-records : recordPlaces exampleArena ≡ 0 ∷ 51 ∷ 102 ∷ []
+  pub P3-finished : finishOf exampleArena 204 6 32 ≡ Body 204
+  pub P3-body : length exampleBody ≡ 204
+  pub P3-records : recordPlaces exampleBody ≡ 0 ∷ 51 ∷ 102 ∷ []
   pub P4-one : filterSize 1 ≡ 1 ∷ 14 ∷ 14 ∷ []
   pub P4-two : filterSize 2 ≡ 1 ∷ 14 ∷ 14 ∷ []
   pub P4-three : filterSize 3 ≡ 1 ∷ 14 ∷ 14 ∷ []
@@ -41,11 +47,12 @@ pub record Figures : Type 0 where
 
 -- THEOREM: all of them hold
 pub figures : Figures
-unfolding bucketsOf arenaStart exampleArena exampleTable tableBytes entryBytes versionsBytes versionBytes bytesOf le spelled entryPlace walked walkFrom entryRefusal keyRefusal keyRises keyAt orderOf versionsRefusal versionRefusal sequenceFalls filterSize segmentOf segmentsOf cellsOf exponentOf greatest rule upTo firsts segments positionsOf cellOf firstCell
+unfolding bucketsOf arenaStart exampleBody le spelled keyPlace entryPlace filterSize segmentOf segmentsOf cellsOf exponentOf greatest rule upTo firsts segments positionsOf cellOf firstCell
 figures = record {
   P1 = refl;
   P2 = refl;
-  P3-keys = refl;
+  P3-keys = example-keys;
+  P3-finished = example-fits;
   P3-body = refl;
   P3-records = refl;
   P4-one = refl;

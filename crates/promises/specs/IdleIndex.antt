@@ -1,38 +1,33 @@
 -- Idle indexes are shut out: a finish that answers 10 each time, a get that always says nothing, an index that places only its first key.
 -- Assumes nothing.
-use Prim.Native.Nat.{ℕ, zero, suc, _+_, _≤_, _<_}
+use Prim.Native.Nat.{ℕ, _+_, _≤_, _<_}
 use native.Mathlib.Omega.{arith}
 use mathlib.Core.Path.{_≡_, refl, sym, ap, _∙_, subst}
-use mathlib.Core.Bool.{Bool, true, _&&_, and-eq-true-iff}
 use mathlib.Core.List.{List, [], _∷_}
 use mathlib.Core.Logic.{_⊎_, inl, inr}
 use mathlib.Core.Option.{Option·some-ne-none}
-use borrow.Author.Tests.{ltb-true}
-use lib.Dec.{ltb}
 use lib.ListN.{length, take}
-use Rattle.laws.specs.Each.{Each, each-none, each-more}
+use Rattle.laws.specs.Each.{each-none, each-more}
 use Rattle.words.specs.Field.{spelled, le, bytesOf}
 use Rattle.words.specs.Part.{orderOf, sameAs}
-use Rattle.words.proofs.Laws.{AllBytes}
+use Rattle.words.proofs.Laws.{AllBytes, bytes-tested}
 use Rattle.mixing.specs.Mixing.{hashOf, seedOf}
-use Rattle.records.specs.declared.Kind.the-variants.{Put}
+use Rattle.records.specs.declared.Kind.the-variants.{Put, Tombstone}
 use Rattle.records.specs.declared.Limit.the-variants.{None}
 use Rattle.records.specs.declared.Record.{Record}
+use Rattle.records.specs.Example.{exampleTable, exampleArena}
 use Rattle.records.specs.Model.{Entry, versionBytes, versionsBytes, entryBytes, tableBytes, within, better, greatest, recordsOf, lookup}
 use Rattle.records.specs.Places.{keyAt, recordAt, versionsFrom, entryAt, entriesFrom}
 use Rattle.records.specs.Rules.{keyRises, keyRefusal, sequenceFalls, versionRefusal, versionsRefusal, entryRefusal}
-use Rattle.records.specs.Tables.{InData, TableInData}
+use Rattle.records.specs.Tables.{TableInData}
 use Rattle.records.specs.Walk.{walkFrom}
-use Rattle.records.proofs.PassedLaws.{entries-count}
 use Rattle.construct.specs.Construct.{bucketsOf, attemptOf}
 use Rattle.construct.specs.Keys.{keyOf, hashesOf, attemptHashes}
 use Rattle.construct.proofs.Figures.{one-key}
 use Rattle.point.specs.declared.Answer.the-variants.{Found, Nothing}
 use Rattle.point.specs.Get.{getOf, answerNumber}
-use Rattle.layout.specs.Layout.{keysIn, arenaIn}
-use Rattle.point.specs.Table.{tableOf, OneBelow, Belongs, answerTo}
-use Rattle.point.specs.declared.Validated.the-variants.{Accepted}
-use Rattle.point.specs.Validate.{validateOf}
+use Rattle.layout.specs.Layout.{keysIn}
+use Rattle.point.specs.Table.{OneBelow, Belongs, answerTo}
 use Rattle.point.proofs.SlotLaws.{slot-owner, owner-slot}
 use Rattle.finish.specs.declared.Finished.{Finished}
 use Rattle.finish.specs.declared.Finished.the-variants.{Body, Refused}
@@ -40,57 +35,18 @@ use Rattle.finish.specs.Body.{arenaStart}
 use Rattle.finish.specs.Finish.{walked, keysOf, lengthsRefusal, answered, bodyLength, finishOf, FinishPost, finishedNumber}
 use Rattle.finish.proofs.LengthLaws.{length-fits}
 use Rattle.finish.proofs.Answers.{finish-number, ten-fails, body-or-ten}
-use Rattle.finish.proofs.Accepted.{finish-accepted, finish-table, finish-get}
+use Rattle.finish.proofs.Accepted.{finish-get}
 use Rattle.promises.specs.Finished.{output-body}
-
--- ---- the two lists
+use Rattle.promises.specs.Example.{exampleBody, ExampleRoom, example-output, example-accepted, example-read}
 
 -- a put of 8 bytes
 abbrev pub putOf : (sequence offset : ℕ) → Record
 putOf sequence offset = record { kind = Put; sequence = sequence; offset = offset; length = 8 }
 
--- key A alone
-unfoldable pub oneTable : List Entry
-oneTable = record { key = 65 ∷ []; versions = putOf 9 0 ∷ [] } ∷ []
-
-unfoldable pub oneArena : List ℕ
-oneArena = tableBytes oneTable
-
--- keys A and B
-unfoldable pub twoTable : List Entry
-twoTable = record { key = 65 ∷ []; versions = putOf 9 0 ∷ [] } ∷ record { key = 66 ∷ []; versions = putOf 7 8 ∷ [] } ∷ []
-
-unfoldable pub twoArena : List ℕ
-twoArena = tableBytes twoTable
-
--- a put's value inside the data
-put-inside : (cover sequence offset : ℕ) → offset + 8 ≤ cover → Each (InData cover) (putOf sequence offset ∷ [])
-put-inside cover sequence offset l = each-more l each-none
-
--- ---- bytes, tested one by one
-
-unfoldable inBytes : List ℕ → Bool
-inBytes [] = true
-inBytes (x ∷ xs) = ltb x 256 && inBytes xs
-
-bytes-tested : (xs : List ℕ) → inBytes xs ≡ true → AllBytes xs
-unfolding inBytes
-bytes-tested [] e i = omega arith
-bytes-tested (x ∷ xs) e zero = ltb-true x 256 (and-eq-true-iff (ltb x 256) (inBytes xs) .0 e .0)
-bytes-tested (x ∷ xs) e (suc i) = bytes-tested xs (and-eq-true-iff (ltb x 256) (inBytes xs) .0 e .1) i
-
-one-bytes : AllBytes oneArena
-unfolding inBytes oneArena oneTable tableBytes entryBytes versionsBytes versionBytes bytesOf
-one-bytes = bytes-tested oneArena refl
-
-two-bytes : AllBytes twoArena
-unfolding inBytes twoArena twoTable tableBytes entryBytes versionsBytes versionBytes bytesOf
-two-bytes = bytes-tested twoArena refl
-
--- ---- the output of a finish that answers a body
+-- ---- get on the bytes that finish answers
 
 module _ {arena o w u o' w' u' : List ℕ} {k : ℕ} (all : AllBytes arena) (P : FinishPost arena o w u (Body k) o' w' u') where
-  -- THEOREM: get on its bytes is the lookup in the arena's table
+  -- THEOREM: it is the lookup in the arena's table
   pub output-get : (table : List Entry) → entriesFrom arena 0 (keysOf arena) ≡ table → (cover : ℕ) → TableInData cover table → (key : List ℕ)
       → getOf (take k o') cover key None ≡ answerTo (lookup table key None)
   output-get table t cover inside key =
@@ -99,6 +55,17 @@ module _ {arena o w u o' w' u' : List ℕ} {k : ℕ} (all : AllBytes arena) (P :
       ∙ ap (λ (x : List Entry). answerTo (lookup x key None)) t
 
 -- ---- one key
+
+-- key A alone
+unfoldable pub oneTable : List Entry
+oneTable = record { key = 65 ∷ []; versions = putOf 9 0 ∷ [] } ∷ []
+
+unfoldable pub oneArena : List ℕ
+oneArena = tableBytes oneTable
+
+one-bytes : AllBytes oneArena
+unfolding oneArena oneTable tableBytes entryBytes versionsBytes versionBytes bytesOf
+one-bytes = bytes-tested oneArena refl
 
 one-keys : keysOf oneArena ≡ 1
 unfolding oneArena oneTable tableBytes entryBytes versionsBytes versionBytes bytesOf le spelled walked walkFrom entryRefusal keyRefusal keyRises keyAt orderOf versionsRefusal versionRefusal sequenceFalls
@@ -158,57 +125,53 @@ module _ {o w u o' w' u' : List ℕ} {r : Finished} (R : OneRoom o w u) (P : Fin
   -- THEOREM: get finds the key in what was written
   pub one-found : getOf (take 78 o') 8 (65 ∷ []) None ≡ Found (putOf 9 0)
   unfolding oneTable lookup recordsOf greatest better within sameAs
-  one-found = output-get one-bytes one-post oneTable one-entries 8 (each-more (put-inside 8 9 0 (omega arith)) each-none) (65 ∷ [])
+  one-found =
+      let inside : 0 + 8 ≤ 8 = omega arith in
+      output-get one-bytes one-post oneTable one-entries 8 (each-more (each-more inside each-none) each-none) (65 ∷ [])
 
   -- THEOREM: a get that always says nothing is shut out
   pub never-nothing : getOf (take 78 o') 8 (65 ∷ []) None ≡ Nothing → ⊥
   never-nothing e = omega (arith, ap answerNumber (sym one-found ∙ e))
 
--- ---- two keys
+-- ---- three keys: document 01's example
 
-two-entries : entriesFrom twoArena 0 (keysOf twoArena) ≡ twoTable
-unfolding twoArena twoTable tableBytes entryBytes versionsBytes versionBytes bytesOf le spelled walked walkFrom entryRefusal keyRefusal keyRises keyAt orderOf versionsRefusal versionRefusal sequenceFalls entriesFrom entryAt versionsFrom recordAt
-two-entries = refl
+-- the body has three keys
+body-keys : keysIn exampleBody ≡ 3
+unfolding exampleBody le spelled
+body-keys = refl
 
-module _ {o w u o' w' u' : List ℕ} {k : ℕ} (P : FinishPost twoArena o w u (Body k) o' w' u') where
-  two-inside : TableInData 16 twoTable
-  unfolding twoTable
-  two-inside = each-more (put-inside 16 9 0 (omega arith)) (each-more (put-inside 16 7 8 (omega arith)) each-none)
+module _ {o w u o' w' u' : List ℕ} {r : Finished} (R : ExampleRoom o w u) (P : FinishPost exampleArena o w u r o' w' u') where
+  -- THEOREM: with room it answers the body
+  pub all-finished : r ≡ Body 204
+  all-finished = example-output R P .0
 
-  -- THEOREM: whatever meets finish's contract with a body has both keys found in it
-  pub both-found : (getOf (take k o') 16 (65 ∷ []) None ≡ Found (putOf 9 0)) × (getOf (take k o') 16 (66 ∷ []) None ≡ Found (putOf 7 8))
-  unfolding twoTable lookup recordsOf greatest better within sameAs
-  both-found = (
-    output-get two-bytes P twoTable two-entries 16 two-inside (65 ∷ []),
-    output-get two-bytes P twoTable two-entries 16 two-inside (66 ∷ []),
-  )
+  found : (key : List ℕ) → getOf (take 204 o') 116 key None ≡ answerTo (lookup exampleTable key None)
+  found key = ap (λ (b : List ℕ). getOf b 116 key None) (example-output R P .1) ∙ example-read key None
 
-  two-accepted : validateOf (take k o') 16 ≡ Accepted
-  two-accepted =
-      ap (λ (b : List ℕ). validateOf b 16) (output-body two-bytes P)
-      ∙ finish-accepted twoArena (length o) (length w) (length u) k two-bytes (sym (P .answer)) 16 (subst (TableInData 16) (sym two-entries) two-inside)
+  -- THEOREM: get finds the greatest record of each of the three keys in what was written
+  pub all-found : (getOf (take 204 o') 116 (65 ∷ []) None ≡ Found (putOf 9 100))
+      × (getOf (take 204 o') 116 (66 ∷ []) None ≡ Found (record { kind = Tombstone; sequence = 7; offset = 108; length = 0 }))
+      × (getOf (take 204 o') 116 (67 ∷ []) None ≡ Found (putOf 12 108))
+  unfolding exampleTable lookup recordsOf greatest better within sameAs
+  all-found = (found (65 ∷ []), found (66 ∷ []), found (67 ∷ []))
 
-  two-keys : keysIn (take k o') ≡ 2
-  unfolding tableOf twoTable
-  two-keys =
-      sym (entries-count (take k o') (arenaIn (take k o')) (keysIn (take k o')))
-      ∙ ap length
-      (ap tableOf (output-body two-bytes P) ∙ finish-table twoArena (length o) (length w) (length u) k two-bytes (sym (P .answer)) ∙ two-entries)
-
-  -- THEOREM: each of its two slots belongs to exactly one of the two keys
-  pub slots-owned : (s : ℕ) → s < 2 → OneBelow 2 (Belongs (take k o') s)
+  -- THEOREM: each of its three slots belongs to exactly one of the three keys
+  pub slots-owned : (s : ℕ) → s < 3 → OneBelow 3 (Belongs (take 204 o') s)
   slots-owned s l =
-      subst (λ (n : ℕ). OneBelow n (Belongs (take k o') s)) two-keys (slot-owner (take k o') 16 two-accepted s (subst (λ (n : ℕ). s < n) (sym two-keys) l))
+      subst (λ (b : List ℕ). OneBelow 3 (Belongs b s)) (sym (example-output R P .1))
+      (subst (λ (n : ℕ). OneBelow n (Belongs exampleBody s)) body-keys (slot-owner exampleBody 116 example-accepted s (omega (arith, body-keys))))
 
-  -- THEOREM: and each of the two keys has exactly one slot
-  pub keys-placed : (i : ℕ) → i < 2 → OneBelow 2 (λ s. Belongs (take k o') s i)
+  -- THEOREM: and each of the three keys has exactly one slot
+  pub keys-placed : (i : ℕ) → i < 3 → OneBelow 3 (λ s. Belongs (take 204 o') s i)
   keys-placed i l =
-      subst (λ (n : ℕ). OneBelow n (λ s. Belongs (take k o') s i)) two-keys (owner-slot (take k o') 16 two-accepted i (subst (λ (n : ℕ). i < n) (sym two-keys) l))
+      subst (λ (b : List ℕ). OneBelow 3 (λ s. Belongs b s i)) (sym (example-output R P .1))
+      (subst (λ (n : ℕ). OneBelow n (λ s. Belongs exampleBody s i)) body-keys (owner-slot exampleBody 116 example-accepted i (omega (arith, body-keys))))
 
-  -- THEOREM: an index that places only its first key is shut out: its second key would have no slot
-  pub never-unplaced : ((s : ℕ) → s < 2 → Belongs (take k o') s 1 → ⊥) → ⊥
-  never-unplaced f = let p = keys-placed 1 (omega arith) in f (p .number) (p .low) (p .has)
+  -- THEOREM: an index that places only its first key is shut out: another key would have no slot
+  pub never-unplaced : (i : ℕ) → 0 < i → i < 3 → ((s : ℕ) → s < 3 → Belongs (take 204 o') s i → ⊥) → ⊥
+  never-unplaced i other low f = let p = keys-placed i low in f (p .number) (p .low) (p .has)
 
   -- THEOREM: and get would miss it
-  pub never-first-only : getOf (take k o') 16 (66 ∷ []) None ≡ Nothing → ⊥
-  never-first-only e = omega (arith, ap answerNumber (sym (both-found .1) ∙ e))
+  pub never-first-only : (getOf (take 204 o') 116 (66 ∷ []) None ≡ Nothing) ⊎ (getOf (take 204 o') 116 (67 ∷ []) None ≡ Nothing) → ⊥
+  never-first-only (inl e) = omega (arith, ap answerNumber (sym (all-found .1) ∙ e))
+  never-first-only (inr e) = omega (arith, ap answerNumber (sym (all-found .2) ∙ e))

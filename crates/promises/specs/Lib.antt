@@ -13,6 +13,7 @@ pub mod Finished
 pub mod Filter
 pub mod Listed
 pub mod Unique
+pub mod Example
 pub mod Figures
 pub mod IdleAdd
 pub mod IdleIndex
