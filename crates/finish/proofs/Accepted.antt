@@ -10,10 +10,8 @@ use mathlib.Core.Option.{Option, none, some}
 use mathlib.Core.Logic.{⊎-elim}
 use lib.ListN.{length, getD, take, drop, List·getD-eq-default}
 use lib.Seq.{drop-at}
-use borrow.Author.Tests.{eq-eqb, ne-eqb, le-ltb, lt-leb}
+use borrow.Author.Tests.{eq-eqb, ne-eqb, lt-leb}
 use Rattle.laws.specs.Cases.{lt-or-ge}
-use Rattle.laws.specs.Each.{Each}
-use Rattle.laws.specs.Each.Each.{each-none, each-more}
 use Rattle.laws.specs.RefusalLaws.{orElse-zero}
 use Rattle.words.specs.Field.{bytesOf}
 use Rattle.words.specs.Part.{sameAs}
@@ -21,14 +19,16 @@ use Rattle.words.proofs.Laws.{AllBytes, bytes-bytesOf, bytes-append}
 use Rattle.words.proofs.Ordered.{same-self}
 use Rattle.mixing.specs.Mixing.{hashOf, fingerprintOf, seedOf, bucketOf, bucketOf-lt, seedOf-lt}
 use Rattle.mixing.specs.Slots.{some-buckets}
-use Rattle.records.specs.declared.DataLength.the-variants.{Untested, Of}
+use Rattle.layout.specs.Layout.{magic, slotAt, seedIn, keysIn, bucketsIn, arenaIn, dimensionRefusal, headerRefusal, pilotAt, directPast, pilotOf, slotOf, slotPlace, recordOffset, fingerprintWide}
+use Rattle.layout.proofs.HeaderLaws.{magic-is, header-on, passes}
+use Rattle.records.specs.declared.DataLength.the-variants.{Untested}
 use Rattle.records.specs.declared.Limit.{Limit}
-use Rattle.records.specs.declared.Record.{Record}
 use Rattle.records.specs.Model.{Entry, tableBytes, lookup}
 use Rattle.records.specs.Places.{keyAt, entriesFrom, entryPlace}
 use Rattle.records.specs.Rules.{unslotted}
-use Rattle.records.specs.Tables.{RecordRules, EntryRules, TableRules, InData, EntryInData, TableInData}
+use Rattle.records.specs.Tables.{TableRules, TableInData}
 use Rattle.records.proofs.PassedLaws.{entries-count, place-rises, walk-ends}
+use Rattle.records.proofs.TableLaws.{table-tested}
 use Rattle.records.proofs.Theorems.{read-back, read-whole, table-few, table-most}
 use Rattle.construct.specs.Construct.{bucketsOf, tries, direct, size, Placing, slotBy, indexOf}
 use Rattle.construct.specs.Keys.{keyOf, attemptHashes}
@@ -36,12 +36,10 @@ use Rattle.construct.specs.Promised.{Whole, Pilots}
 use Rattle.construct.proofs.KeysLaws.{hashes-long}
 use Rattle.construct.proofs.Placed.{few}
 use Rattle.point.specs.declared.Validated.the-variants.{Accepted}
-use Rattle.layout.specs.Layout.{magic, slotAt, seedIn, keysIn, bucketsIn, arenaIn, dimensionRefusal, headerRefusal, pilotAt, directPast, pilotOf, slotOf, slotPlace, recordOffset, fingerprintWide}
 use Rattle.point.specs.Validate.{pilotsRefusal, validateOf}
 use Rattle.point.specs.Get.{getOf}
 use Rattle.point.specs.Table.{tableOf, keyPlace, keySlot, Belongs, answerTo}
 use Rattle.point.specs.Table as table
-use Rattle.layout.proofs.HeaderLaws.{magic-is, header-on, passes}
 use Rattle.point.proofs.Theorems.{accepts, get-is-lookup}
 use Rattle.finish.specs.declared.Finished.the-variants.{Body}
 use Rattle.finish.specs.Body.{arenaStart, headerBytes, pilotsBytes, slotBytes, heldSlot, slotsBytes, bodyBytes, placedOf, bodyFrom, bodyOf}
@@ -86,21 +84,6 @@ module _ (arena : List ℕ) (out wide narrow k : ℕ) where
       go : (o : Option (ℕ × Placing)) → placedOf arena (keysOf arena) ≡ o → unplaced o ≡ false → Made arena
       go none q z = absurd (let t : _≡_ {A = ℕ} 0 1 = cc in omega arith)
       go (some (i, pl)) q z = record { attempt = i; placing = pl; taken = q; whole = L .whole; any = L .some; most = L .few }
-
--- ---- the rules, with a data length
-
-each-two : {A : Type 0} {P Q R : A → Type 0} → ((x : A) → P x → Q x → R x) → (xs : List A) → Each P xs → Each Q xs → Each R xs
-each-two f [] each-none each-none = each-none
-each-two f (x ∷ xs) (each-more p ps) (each-more q qs) = each-more (f x p q) (each-two f xs ps qs)
-
-record-in : (n : ℕ) (r : Record) → RecordRules Untested r → InData n r → RecordRules (Of n) r
-record-in n r u h = record { fits = u .fits; small = u .small; inside = le-ltb n (r .offset + r .length) h; empty = u .empty }
-
-entry-in : (n : ℕ) (e : Entry) → EntryRules Untested e → EntryInData n e → EntryRules (Of n) e
-entry-in n e u h = record { small = u .small; some = u .some; few = u .few; falls = u .falls; versions = each-two (record-in n) (e .versions) (u .versions) h }
-
-pub table-in : (n : ℕ) (t : List Entry) → TableRules Untested t → TableInData n t → TableRules (Of n) t
-table-in n t u h = record { entries = each-two (entry-in n) t (u .entries) h; rises = u .rises }
 
 -- ---- header and pilots
 
@@ -352,7 +335,7 @@ module _ (arena : List ℕ) (M : Made arena) (all : AllBytes arena) where
   made-accepted cover h =
       accepts body cover t header-fine pilots-passed (entries-count arena 0 (keysOf arena) ∙ sym keys-of)
       (ap₂ drop start-of split ∙ drop-at front arena (length front) refl ∙ table-bytes)
-      (table-in cover t table-rules h) (λ j l. belongs j (omega (arith, keys-of)))
+      (table-tested Untested cover t table-rules h) (λ j l. belongs j (omega (arith, keys-of)))
 
 module _ (arena : List ℕ) (out wide narrow k : ℕ) (all : AllBytes arena) (e : finishOf arena out wide narrow ≡ Body k) where
   -- THEOREM: for any arena that finish takes, the body is accepted with any data length that covers its records

@@ -11,10 +11,10 @@ use Rattle.words.specs.Field.{bytesOf, splice}
 use Rattle.words.proofs.Laws.{length-bytesOf, splice-then}
 use Rattle.mixing.specs.Mixing.{fingerprintOf}
 use Rattle.mixing.specs.Slots.{few-buckets}
+use Rattle.layout.specs.Layout.{magic}
 use Rattle.records.specs.Places.{entryPlace}
 use Rattle.construct.specs.Construct.{bucketsOf, Placing}
 use Rattle.construct.specs.Layout.{placing}
-use Rattle.layout.specs.Layout.{magic}
 use Rattle.finish.specs.Body.{arenaStart, headerBytes, pilotsBytes, slotBytes, heldSlot, slotsBytes, bodyBytes}
 use Rattle.finish.specs.Needs.{Room, Listed, listedSlot, Filled, Written}
 use Rattle.finish.proofs.RowLaws.{flat-same, flat-long}

@@ -10,10 +10,10 @@ use Rattle.words.proofs.Laws.{length-bytesOf, bytesOf-append}
 use Rattle.words.proofs.WrittenLaws.{le-written}
 use Rattle.mixing.specs.Mixing.{hashOf, fingerprintOf, fingerprintOf-lt}
 use Rattle.mixing.specs.Slots.{few-buckets}
+use Rattle.layout.specs.Layout.{magic, seedIn, keysIn, bucketsIn, arenaIn, pilotAt, slotPlace, recordOffset, fingerprintWide}
 use Rattle.records.specs.Places.{entryPlace}
 use Rattle.construct.specs.Construct.{bucketsOf, Placing}
 use Rattle.construct.specs.Keys.{keyOf}
-use Rattle.layout.specs.Layout.{magic, seedIn, keysIn, bucketsIn, arenaIn, pilotAt, slotPlace, recordOffset, fingerprintWide}
 use Rattle.finish.specs.Body.{arenaStart, headerBytes, pilotsBytes, slotBytes, heldSlot, slotsBytes, bodyBytes}
 use Rattle.finish.proofs.RowLaws.{flat-split, flat-long}
 use Rattle.finish.proofs.BodyLaws.{header-long, held-long, pilots-long, slots-long, start-is}

@@ -4,10 +4,10 @@ use mathlib.Core.List.{List, [], _++_, flatMap}
 use mathlib.Core.Option.{Option, none, some}
 use Rattle.words.specs.Field.{bytesOf}
 use Rattle.mixing.specs.Mixing.{hashOf, fingerprintOf, seedOf}
+use Rattle.layout.specs.Layout.{magic, slotAt}
 use Rattle.records.specs.Places.{entryPlace}
 use Rattle.construct.specs.Construct.{bucketsOf, Placing, constructOf}
 use Rattle.construct.specs.Keys.{keyOf, attemptHashes}
-use Rattle.layout.specs.Layout.{magic, slotAt}
 
 -- arena start = 32 + 4b + 12n
 unfoldable pub arenaStart : ℕ → ℕ

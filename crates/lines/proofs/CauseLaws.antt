@@ -11,11 +11,11 @@ use borrow.Author.Tests.{ltb-true, ltb-false, le-ltb}
 use Rattle.laws.specs.Refusals.{orElse}
 use Rattle.text.specs.Text.{decimal, readFrom, field, named}
 use Rattle.text.proofs.TextLaws.{decimal-read}
+use Rattle.layout.proofs.HeaderLaws.{headed}
 use Rattle.records.specs.Model.{Entry}
 use Rattle.point.specs.declared.Validated.the-variants.{Accepted}
 use Rattle.point.specs.Validate.{validateOf, refusalNumber}
 use Rattle.point.specs.Table.{tableOf}
-use Rattle.layout.proofs.HeaderLaws.{headed}
 use Rattle.point.proofs.ValidateLaws.{passed}
 use Rattle.point.proofs.CauseLaws.{validate-cause, cause-validate, stops-between}
 use Rattle.lines.specs.Shown.{Rule}

@@ -13,15 +13,15 @@ use Rattle.laws.specs.RefusalLaws.{orElse-zero}
 use Rattle.words.proofs.Laws.{AllBytes, bytes-drop, le-lt}
 use Rattle.text.specs.Written.{Ends}
 use Rattle.text.proofs.TextLaws.{decimal-short}
+use Rattle.layout.specs.Layout.{keysIn, arenaIn}
+use Rattle.layout.proofs.HeaderLaws.{headed}
 use Rattle.records.specs.declared.DataLength.the-variants.{Of}
 use Rattle.records.specs.Model.{tableBytes, Rises}
 use Rattle.records.proofs.ReadLaws.{passed-rise}
 use Rattle.point.specs.declared.Validated.{Validated}
 use Rattle.point.specs.declared.Validated.the-variants.{Accepted}
-use Rattle.layout.specs.Layout.{keysIn, arenaIn}
 use Rattle.point.specs.Validate.{validationRefusal, verdict, validateOf, refusalNumber}
 use Rattle.point.specs.Table.{tableOf, keyPlace}
-use Rattle.layout.proofs.HeaderLaws.{headed}
 use Rattle.point.proofs.ValidateLaws.{passed}
 use Rattle.point.proofs.SlotLaws.{keys-passed, key-entered, holds-table}
 use Rattle.lines.specs.declared.Listed.{Listed}

@@ -10,12 +10,12 @@ use lib.Seq.{sets}
 use Rattle.words.proofs.Laws.{AllBytes, le-lt}
 use Rattle.text.specs.Written.{Ends, Written}
 use Rattle.text.proofs.WrittenLaws.{sets-append}
+use Rattle.layout.specs.Layout.{keysIn, arenaIn}
 use Rattle.records.specs.declared.Record.{Record}
 use Rattle.records.specs.declared.Within.the-variants.{Found}
 use Rattle.records.specs.Within.{foundOf}
 use Rattle.records.specs.Places.{nextEntry, entryAt, entriesFrom, entryPlace}
 use Rattle.records.proofs.PassedLaws.{entries-count}
-use Rattle.layout.specs.Layout.{keysIn, arenaIn}
 use Rattle.point.specs.Table.{tableOf}
 use Rattle.lines.specs.declared.Lines.{Lines}
 use Rattle.lines.specs.Shown.{newestTombstone, shown, shownOne, shownCount}

@@ -12,9 +12,9 @@ use Rattle.words.proofs.Laws.{splice-sets}
 use Rattle.text.specs.Text.{decimal, field, named}
 use Rattle.text.specs.Written.{Ends, Written}
 use Rattle.text.proofs.TextLaws.{decimal-short}
+use Rattle.layout.specs.Layout.{keysIn, arenaIn}
 use Rattle.records.specs.Model.{Entry}
 use Rattle.records.proofs.PassedLaws.{entries-count}
-use Rattle.layout.specs.Layout.{keysIn, arenaIn}
 use Rattle.point.specs.Table.{tableOf}
 use Rattle.lines.specs.declared.Listed.the-variants.{Text, Refused}
 use Rattle.lines.specs.Shown.{newestTombstone, shownCount}

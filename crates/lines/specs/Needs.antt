@@ -3,10 +3,10 @@ use Prim.Native.Nat.{ℕ, _<_, _≤_}
 use mathlib.Core.Path.{_≡_}
 use mathlib.Core.List.{List}
 use lib.ListN.{length}
+use Rattle.layout.specs.Layout.{keysIn, arenaIn}
 use Rattle.records.specs.declared.DataLength.the-variants.{Of}
 use Rattle.records.specs.Places.{firstVersion, nextEntry, entryPlace}
 use Rattle.records.specs.Rules.{entryVersionsRefusal}
-use Rattle.layout.specs.Layout.{keysIn, arenaIn}
 
 -- a whole entry stands at p, whose versions pass 27 to 29 for some data
 pub record Stands (body : List ℕ) (p : ℕ) : Type 0 where

@@ -11,6 +11,7 @@ use lib.ListN.{length}
 use borrow.Author.Tests.{ltb-true, ltb-false, eqb-true, eqb-false, lt-ltb, le-ltb, eq-eqb}
 use Rattle.words.specs.Part.{sameAs}
 use Rattle.mixing.specs.Mixing.{hashOf, fingerprintOf}
+use Rattle.layout.specs.Layout.{seedIn, keysIn, arenaIn, headerRefusal, pilotOf, directPast, slotPlace, recordOffset, fingerprintLow}
 use Rattle.records.specs.declared.Limit.{Limit}
 use Rattle.records.specs.declared.Limit.the-variants.{None as Unlimited, UpTo}
 use Rattle.records.specs.declared.Record.{Record}
@@ -27,7 +28,6 @@ use Rattle.point.specs.declared.Opened.{Opened}
 use Rattle.point.specs.declared.Opened.the-variants as opened
 use Rattle.point.specs.declared.Answer.{Answer}
 use Rattle.point.specs.declared.Answer.the-variants.{Found, Nothing, Refused}
-use Rattle.layout.specs.Layout.{seedIn, keysIn, arenaIn, headerRefusal, pilotOf, directPast, slotPlace, recordOffset, fingerprintLow}
 use Rattle.point.specs.Get.{locateHash, locateOf, openRecordOf, openAt, openOf, firstOfAll, firstFor, answerOf, getOf, locatedNumber, locatedValues, openedNumber, openedValues, answerNumber, answerValues}
 use Rattle.point.specs.Table.{keySlot}
 use Rattle.point.specs.Causes.{Leads, RecordOpens, Opens, LocatingDamaged, RecordDamaged, OpeningDamaged, VersionDamaged, DamageMet}

@@ -11,6 +11,7 @@ use Rattle.laws.specs.Refusals.{Cause, First, here, later, None, Numbered, orEl
 use Rattle.laws.specs.Refusals.Numbered.{numbered-none, numbered-more}
 use Rattle.laws.specs.RefusalLaws.{FirstOfTwo, two-given, two-only}
 use Rattle.laws.specs.RefusalLaws.FirstOfTwo.{by-first, by-second}
+use Rattle.layout.specs.Layout.{keysIn, bucketsIn, arenaIn, magicCauses, magicRefusal, dimensionCauses, dimensionRefusal, headerRefusal, pilotAt, directPast}
 use Rattle.records.specs.declared.DataLength.{DataLength}
 use Rattle.records.specs.declared.DataLength.the-variants.{Of}
 use Rattle.records.specs.Rules.{keyCauses, versionCauses}
@@ -19,7 +20,6 @@ use Rattle.records.specs.Causes.VersionsStop.{version-here, version-later}
 use Rattle.records.specs.Causes.EntryStops.{by-key, by-slot, by-versions}
 use Rattle.records.specs.Causes.WalkStops.{entry-here, entry-later, left-over}
 use Rattle.records.proofs.CauseLaws.{walk-stops, walk-some, stops-walk}
-use Rattle.layout.specs.Layout.{keysIn, bucketsIn, arenaIn, magicCauses, magicRefusal, dimensionCauses, dimensionRefusal, headerRefusal, pilotAt, directPast}
 use Rattle.point.specs.Validate.{pilotsRefusal, slotCauses, slotTest, slotRefusal, arenaRefusal, validationRefusal, validateOf, verdict, refusalNumber}
 use Rattle.point.specs.Causes.{ValidationStops}
 use Rattle.point.specs.Causes.ValidationStops.{magic-wrong, dimensions-wrong, pilot-past, arena-stops}

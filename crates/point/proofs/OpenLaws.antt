@@ -14,17 +14,17 @@ use Rattle.words.specs.Part.{sameAs}
 use Rattle.words.proofs.Laws.{AllBytes, le-lt, le-join}
 use Rattle.words.proofs.Ordered.{same-equal, same-self}
 use Rattle.mixing.specs.Mixing.{hashOf, fingerprintOf, fingerprintOf-lt}
+use Rattle.layout.specs.Layout.{seedIn, keysIn, arenaIn, slotPlace, recordOffset, fingerprintLow, fingerprintWide}
+use Rattle.layout.proofs.HeaderLaws.{headed, slot-inside}
 use Rattle.records.specs.Model.{recordsOf}
 use Rattle.records.specs.Places.{keyAt, firstVersion, versionCount, nextEntry, versionsFrom, entryAt, entriesFrom, entryPlace}
 use Rattle.point.specs.declared.Validated.the-variants.{Accepted}
 use Rattle.point.specs.declared.Versions.{Versions}
 use Rattle.point.specs.declared.Located.the-variants as located
 use Rattle.point.specs.declared.Opened.the-variants as opened
-use Rattle.layout.specs.Layout.{seedIn, keysIn, arenaIn, slotPlace, recordOffset, fingerprintLow, fingerprintWide}
 use Rattle.point.specs.Validate.{validateOf}
 use Rattle.point.specs.Get.{locateOf, openOf}
 use Rattle.point.specs.Table.{tableOf, keyPlace, keyOf, keySlot}
-use Rattle.layout.proofs.HeaderLaws.{headed, slot-inside}
 use Rattle.point.proofs.GetLaws.{locate-on, locate-other, locate-at, open-is, record-other, record-same}
 use Rattle.point.proofs.ValidateLaws.{passed}
 use Rattle.point.proofs.SlotLaws.{key-entered, key-belongs, hash-near, hash-slot, slots-apart, slot-hit}

@@ -11,6 +11,8 @@ use borrow.Author.Tests.{ltb-false}
 use Rattle.laws.specs.Each.{each-map}
 use Rattle.laws.specs.Pigeonhole.{Hit, onto}
 use Rattle.words.proofs.Laws.{AllBytes}
+use Rattle.layout.specs.Layout.{keysIn, arenaIn, pilotOf, directPast, slotOf, slotPlace, recordOffset}
+use Rattle.layout.proofs.HeaderLaws.{headed, slot-low}
 use Rattle.records.specs.declared.DataLength.the-variants.{Of}
 use Rattle.records.specs.declared.Record.{Record}
 use Rattle.records.specs.Model.{Entry, tableBytes}
@@ -22,10 +24,8 @@ use Rattle.records.proofs.ReadLaws.{passed-bytes, passed-rules}
 use Rattle.records.proofs.TableLaws.{table-fits}
 use Rattle.records.proofs.WriteLaws.{table-unique}
 use Rattle.point.specs.declared.Validated.the-variants.{Accepted}
-use Rattle.layout.specs.Layout.{keysIn, arenaIn, pilotOf, directPast, slotOf, slotPlace, recordOffset}
 use Rattle.point.specs.Validate.{slotRefusal, validateOf}
 use Rattle.point.specs.Table.{tableOf, keyPlace, keyOf, keySlot, HoldsTable, Belongs, OneBelow}
-use Rattle.layout.proofs.HeaderLaws.{headed, slot-low}
 use Rattle.point.proofs.ValidateLaws.{passed, checked-near, slotted}
 
 -- ---- the table

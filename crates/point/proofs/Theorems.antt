@@ -10,6 +10,8 @@ use lib.ListN.{length, take, drop, take-append-drop}
 use lib.Seq.{length-take-le}
 use Rattle.words.proofs.Laws.{AllBytes}
 use Rattle.mixing.specs.Mixing.{hashOf}
+use Rattle.layout.specs.Layout.{headerRefusal, seedIn, keysIn, bucketsIn, arenaIn}
+use Rattle.layout.proofs.HeaderLaws.{headed}
 use Rattle.records.specs.declared.DataLength.the-variants.{Of}
 use Rattle.records.specs.declared.Limit.{Limit}
 use Rattle.records.specs.declared.Record.{Record}
@@ -29,12 +31,10 @@ use Rattle.point.specs.declared.Located.{Located}
 use Rattle.point.specs.declared.Opened.{Opened}
 use Rattle.point.specs.declared.Answer.{Answer}
 use Rattle.point.specs.declared.Answer.the-variants.{Found, Nothing, Refused}
-use Rattle.layout.specs.Layout.{headerRefusal, seedIn, keysIn, bucketsIn, arenaIn}
 use Rattle.point.specs.Validate.{pilotsRefusal, slotRefusal, arenaRefusal, validateOf}
 use Rattle.point.specs.Get.{locateOf, openRecordOf, openOf, answerOf, getOf, partOf, valueOf, startOf, ValuePost}
 use Rattle.point.specs.Lookup.{Newest, NoneWithin}
 use Rattle.point.specs.Table.{tableOf, keyPlace, keyOf, keySlot, Belongs, answerTo}
-use Rattle.layout.proofs.HeaderLaws.{headed}
 use Rattle.point.proofs.GetLaws.{get-open, get-nothing, get-limit}
 use Rattle.point.proofs.ValidateLaws.{accepted, slot-right}
 use Rattle.point.proofs.SlotLaws.{key-entered, holds-table}

@@ -12,14 +12,14 @@ use borrow.Author.Tests.{eqb-true, not-false, eq-eqb, ne-eqb}
 use Rattle.laws.specs.RefusalLaws.{orElse-stop, orElse-zero}
 use Rattle.words.specs.Field.{le}
 use Rattle.mixing.specs.Mixing.{hashOf, fingerprintOf, bucketOf, bucketOf-lt}
+use Rattle.layout.specs.Layout.{headerRefusal, seedIn, keysIn, bucketsIn, arenaIn, pilotAt, pilotOf, directPast, slotOf, slotPlace, recordOffset, fingerprintWide}
+use Rattle.layout.proofs.HeaderLaws.{passes, headed}
 use Rattle.records.specs.declared.DataLength.the-variants.{Of}
 use Rattle.records.specs.Places.{keyAt, nextEntry}
 use Rattle.records.specs.Walk.{walkFrom}
 use Rattle.records.proofs.RuleLaws.{Entered}
 use Rattle.point.specs.declared.Validated.the-variants.{Accepted, Refused}
-use Rattle.layout.specs.Layout.{headerRefusal, seedIn, keysIn, bucketsIn, arenaIn, pilotAt, pilotOf, directPast, slotOf, slotPlace, recordOffset, fingerprintWide}
 use Rattle.point.specs.Validate.{pilotsRefusal, slotTest, slotRefusal, arenaRefusal, validationRefusal, verdict, validateOf, Checked, Stepping}
-use Rattle.layout.proofs.HeaderLaws.{passes, headed}
 
 -- ---- 22, a pilot at a time
 

@@ -8,6 +8,7 @@ use lib.ListN.{length}
 use Rattle.laws.specs.Refusals.{First, None}
 use Rattle.words.specs.Part.{sameAs}
 use Rattle.mixing.specs.Mixing.{hashOf, fingerprintOf}
+use Rattle.layout.specs.Layout.{headerRefusal, magicCauses, dimensionCauses, seedIn, keysIn, bucketsIn, arenaIn, pilotAt, pilotOf, directPast, slotPlace, recordOffset, fingerprintLow}
 use Rattle.records.specs.declared.DataLength.the-variants.{Of}
 use Rattle.records.specs.declared.Limit.{Limit}
 use Rattle.records.specs.declared.Record.{Record}
@@ -16,7 +17,6 @@ use Rattle.records.specs.Model.{within}
 use Rattle.records.specs.Places.{keyAt, firstVersion, versionCount, sequenceAt, kindAt}
 use Rattle.records.specs.Rules.{badKind}
 use Rattle.records.specs.Causes.{WalkStops}
-use Rattle.layout.specs.Layout.{headerRefusal, magicCauses, dimensionCauses, seedIn, keysIn, bucketsIn, arenaIn, pilotAt, pilotOf, directPast, slotPlace, recordOffset, fingerprintLow}
 use Rattle.point.specs.Validate.{slotRefusal, Checked}
 use Rattle.point.specs.Get.{openOf, firstFor}
 use Rattle.point.specs.Table.{keySlot}

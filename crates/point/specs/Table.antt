@@ -5,6 +5,7 @@ use mathlib.Core.List.{List}
 use mathlib.Core.Option.{Option, none, some}
 use lib.ListN.{length, drop}
 use Rattle.mixing.specs.Mixing.{hashOf, fingerprintOf}
+use Rattle.layout.specs.Layout.{seedIn, keysIn, arenaIn, slotOf, slotPlace, recordOffset, fingerprintWide}
 use Rattle.records.specs.declared.DataLength.the-variants.{Of}
 use Rattle.records.specs.declared.Record.{Record}
 use Rattle.records.specs.Model.{Entry, tableBytes}
@@ -12,7 +13,6 @@ use Rattle.records.specs.Places.{keyAt, entriesFrom, entryPlace}
 use Rattle.records.specs.Tables.{TableFits, TableRules, TableInData}
 use Rattle.point.specs.declared.Answer.{Answer}
 use Rattle.point.specs.declared.Answer.the-variants.{Found, Nothing}
-use Rattle.layout.specs.Layout.{seedIn, keysIn, arenaIn, slotOf, slotPlace, recordOffset, fingerprintWide}
 
 -- the table of a body
 unfoldable pub tableOf : List ℕ → List Entry

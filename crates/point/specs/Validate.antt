@@ -7,13 +7,13 @@ use lib.Dec.{eqb}
 use lib.ListN.{length}
 use Rattle.laws.specs.Refusals.{Cause, cause, firstOf, orElse}
 use Rattle.mixing.specs.Mixing.{hashOf, fingerprintOf}
+use Rattle.layout.specs.Layout.{headerRefusal, seedIn, keysIn, bucketsIn, arenaIn, pilotAt, directPast, slotOf, slotPlace, recordOffset, fingerprintWide}
 use Rattle.records.specs.declared.DataLength.the-variants.{Of}
 use Rattle.records.specs.Needs.{Walking}
 use Rattle.records.specs.Places.{keyAt, firstVersion}
 use Rattle.records.specs.Walk.{walkFrom}
 use Rattle.point.specs.declared.Validated.{Validated}
 use Rattle.point.specs.declared.Validated.the-variants.{Accepted, Refused}
-use Rattle.layout.specs.Layout.{headerRefusal, seedIn, keysIn, bucketsIn, arenaIn, pilotAt, directPast, slotOf, slotPlace, recordOffset, fingerprintWide}
 
 -- 22 a direct pilot at or past n, among the k pilots from i on
 unfoldable pub pilotsRefusal : List ℕ → (n i : ℕ) → ℕ → ℕ

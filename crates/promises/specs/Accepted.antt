@@ -6,12 +6,12 @@ use mathlib.Core.Path.{_≡_}
 use mathlib.Core.List.{List}
 use lib.ListN.{length}
 use Rattle.words.proofs.Laws.{AllBytes}
+use Rattle.layout.specs.Layout.{keysIn}
 use Rattle.records.specs.declared.Limit.{Limit}
 use Rattle.records.specs.declared.Record.{Record}
 use Rattle.records.specs.Model.{recordsOf, lookup}
 use Rattle.point.specs.declared.Validated.the-variants.{Accepted}
 use Rattle.point.specs.declared.Answer.the-variants.{Found, Refused}
-use Rattle.layout.specs.Layout.{keysIn}
 use Rattle.point.specs.Validate.{validateOf}
 use Rattle.point.specs.Get.{getOf, partOf, startOf, ValuePost, answerNumber}
 use Rattle.point.specs.Table.{tableOf, HoldsTable, Belongs, OneBelow, answerTo}

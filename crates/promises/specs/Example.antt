@@ -1,6 +1,6 @@
--- Document 01's example, keys A, B and C, with no hypothesis: attempt 0 places them, finish answers a body of 204 bytes and which bytes, validation
--- accepts it for data of 116 bytes, get reads it like the list, and its listing at limit 8 is the two lines. What hashes, positions and
--- fingerprints the keys have is computed in mixrule. Assumes nothing.
+-- Document 01's example, keys A, B and C, with no hypothesis: the builder takes the list, attempt 0 places its keys, finish answers a body of 204
+-- bytes and which bytes, validation accepts it for data of 116 bytes, get reads it like the list, and its listing at limit 8 is the two lines.
+-- What hashes, positions and fingerprints the keys have is computed in mixrule. Assumes nothing.
 use Prim.Native.Nat.{ℕ, _+_, _≤_}
 use native.Mathlib.Omega.{arith}
 use mathlib.Core.Path.{_≡_, refl, sym, ap, _∙_, subst}
@@ -8,20 +8,23 @@ use mathlib.Core.Bool.{false}
 use mathlib.Core.List.{List, [], _∷_, _++_, flatMap}
 use mathlib.Core.Option.{none, some, bind, Option·map}
 use lib.ListN.{length, take}
-use Rattle.laws.specs.Each.{each-none, each-more}
+use Rattle.laws.specs.Each.{Each, each-none, each-more}
 use Rattle.laws.specs.Steps.{steps, anyBelow, greatest, least-hit, least-miss}
 use Rattle.words.specs.Field.{spelled, le, bytesOf}
 use Rattle.words.specs.Part.{orderOf}
 use Rattle.words.proofs.Laws.{AllBytes, bytes-tested}
 use Rattle.mixing.specs.Mixing.{seedOf}
 use Rattle.mixing.specs.Example.{hashes, positions, fingerprints}
+use Rattle.records.specs.declared.DataLength.the-variants.{Untested}
 use Rattle.records.specs.declared.Limit.{Limit}
 use Rattle.records.specs.Example.{exampleTable, exampleArena}
 use Rattle.records.specs.Model.{Entry, versionBytes, versionsBytes, entryBytes, tableBytes, lookup}
 use Rattle.records.specs.Places.{keyAt, recordAt, versionsFrom, entryAt, entriesFrom, entryPlace}
-use Rattle.records.specs.Rules.{keyRises, keyRefusal, sequenceFalls, versionRefusal, versionsRefusal, entryRefusal}
-use Rattle.records.specs.Tables.{TableInData}
+use Rattle.records.specs.Rules.{unslotted, keyRises, keyRefusal, sequenceFalls, versionRefusal, versionsRefusal, entryRefusal}
+use Rattle.records.specs.Tables.{TableRules, TableInData}
 use Rattle.records.specs.Walk.{walkFrom}
+use Rattle.records.proofs.Theorems.{read-back}
+use Rattle.builder.specs.Taken.{KeyBytes, TakenInto}
 use Rattle.construct.specs.Construct.{bucketsOf, tries, attempts, members, group, size, alike, met, twins, twinsAt, anyTwins, settle, spot, seat, Placing, noted, placeGroup, placeOf, placeSize, placeDown, largest, blank, attemptFrom, attemptOf, constructOf}
 use Rattle.construct.specs.Keys.{hashesOf, attemptHashes}
 use Rattle.construct.proofs.Figures.{one-bucket}
@@ -41,6 +44,7 @@ use Rattle.finish.proofs.Accepted.{finish-accepted, finish-table}
 use Rattle.lines.specs.Shown.{newestTombstone}
 use Rattle.lines.specs.Listing.{tableText, sizeRefusal, listingRefusal, textBy, textOf}
 use Rattle.lines.proofs.Figures.{example-text}
+use Rattle.promises.specs.Taken.{list-taken, taken-kept}
 use Rattle.promises.specs.Finished.{output-body}
 
 -- ---- the list
@@ -72,6 +76,24 @@ example-inside =
     let B3 : 60 + 8 ≤ 116 = omega arith in
     let C12 : 108 + 8 ≤ 116 = omega arith in
     each-more (each-more A9 (each-more A4 each-none)) (each-more (each-more B7 (each-more B3 each-none)) (each-more (each-more C12 each-none) each-none))
+
+example-rules : TableRules Untested exampleTable
+unfolding walked
+example-rules = subst (TableRules Untested) example-entries (read-back unslotted exampleArena Untested 0 0 (length exampleArena) example-bytes (omega arith) .rules)
+
+key-bytes : Each KeyBytes exampleTable
+unfolding exampleTable
+key-bytes = each-more (bytes-tested (65 ∷ []) refl) (each-more (bytes-tested (66 ∷ []) refl) (each-more (bytes-tested (67 ∷ []) refl) each-none))
+
+-- THEOREM: the builder takes it, into any buffer of 132 bytes or more
+pub example-taken : (buffer : List ℕ) → 132 ≤ length buffer → TakenInto buffer exampleTable
+unfolding exampleTable tableBytes entryBytes versionsBytes versionBytes bytesOf
+example-taken buffer room = list-taken exampleTable example-rules key-bytes (omega arith) buffer room
+
+-- THEOREM: and the used bytes are its arena
+pub example-used : {buffer : List ℕ} (T : TakenInto buffer exampleTable) → take (T .state .used) (T .after) ≡ exampleArena
+unfolding exampleArena
+example-used T = taken-kept (T .taken) .3
 
 -- ---- the attempt
 

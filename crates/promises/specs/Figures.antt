@@ -4,10 +4,10 @@ use mathlib.Core.Path.{_≡_, refl}
 use mathlib.Core.List.{List, [], _∷_}
 use lib.ListN.{length}
 use Rattle.words.specs.Field.{spelled, le}
+use Rattle.layout.specs.Layout.{arenaIn}
 use Rattle.records.specs.Places.{entryPlace}
 use Rattle.records.specs.Example.{exampleArena}
 use Rattle.construct.specs.Construct.{bucketsOf}
-use Rattle.layout.specs.Layout.{arenaIn}
 use Rattle.point.specs.Table.{keyPlace}
 use Rattle.finish.specs.declared.Finished.the-variants.{Body}
 use Rattle.finish.specs.Body.{arenaStart}

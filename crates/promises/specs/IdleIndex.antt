@@ -12,6 +12,7 @@ use Rattle.words.specs.Field.{spelled, le, bytesOf}
 use Rattle.words.specs.Part.{orderOf, sameAs}
 use Rattle.words.proofs.Laws.{AllBytes, bytes-tested}
 use Rattle.mixing.specs.Mixing.{hashOf, seedOf}
+use Rattle.layout.specs.Layout.{keysIn}
 use Rattle.records.specs.declared.Kind.the-variants.{Put, Tombstone}
 use Rattle.records.specs.declared.Limit.the-variants.{None}
 use Rattle.records.specs.declared.Record.{Record}
@@ -26,7 +27,6 @@ use Rattle.construct.specs.Keys.{keyOf, hashesOf, attemptHashes}
 use Rattle.construct.proofs.Figures.{one-key}
 use Rattle.point.specs.declared.Answer.the-variants.{Found, Nothing}
 use Rattle.point.specs.Get.{getOf, answerNumber}
-use Rattle.layout.specs.Layout.{keysIn}
 use Rattle.point.specs.Table.{OneBelow, Belongs, answerTo}
 use Rattle.point.proofs.SlotLaws.{slot-owner, owner-slot}
 use Rattle.finish.specs.declared.Finished.{Finished}

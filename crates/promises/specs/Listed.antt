@@ -11,13 +11,13 @@ use lib.Seq.{take-at}
 use borrow.Author.Tests.{le-leb}
 use Rattle.words.proofs.Laws.{AllBytes, bytes-drop}
 use Rattle.words.proofs.PartLaws.{splice-front}
+use Rattle.layout.specs.Layout.{keysIn, arenaIn}
 use Rattle.records.specs.declared.Limit.the-variants.{None, UpTo}
 use Rattle.records.specs.declared.Record.{Record}
 use Rattle.records.specs.Model.{Entry, lookup, Rises}
 use Rattle.records.proofs.PassedLaws.{entries-count}
 use Rattle.point.specs.declared.Answer.the-variants.{Found}
 use Rattle.point.specs.declared.Validated.the-variants.{Accepted}
-use Rattle.layout.specs.Layout.{keysIn, arenaIn}
 use Rattle.point.specs.Validate.{validateOf}
 use Rattle.point.specs.Get.{getOf}
 use Rattle.point.specs.Table.{tableOf, answerTo}

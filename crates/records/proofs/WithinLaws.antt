@@ -15,13 +15,13 @@ use Rattle.records.specs.declared.DataLength.{DataLength}
 use Rattle.records.specs.declared.Limit.{Limit}
 use Rattle.records.specs.declared.Limit.the-variants.{None, UpTo}
 use Rattle.records.specs.declared.Within.{Within}
-use Rattle.records.specs.declared.Within.the-variants.{Found, Damaged}
+use Rattle.records.specs.declared.Within.the-variants.{Found}
 use Rattle.records.specs.Model.{within, limitOf, better, greatest, Falls}
 use Rattle.records.specs.Model.Falls.{falls-more}
 use Rattle.records.specs.Places.{sequenceAt, recordAt, versionsFrom}
 use Rattle.records.specs.Rules.{versionRefusal, versionsRefusal}
 use Rattle.records.specs.Within.{firstWithin, foundOf}
-use Rattle.records.proofs.ModelLaws.{falls-rest, found-whole}
+use Rattle.records.proofs.ModelLaws.{falls-rest}
 use Rattle.records.proofs.RuleLaws.{versioned}
 use Rattle.records.proofs.ReadLaws.{versions-fall}
 
@@ -90,7 +90,3 @@ module _ (bytes : List ℕ) (test : DataLength) (limit : Limit) (all : AllBytes 
   -- THEOREM: on versions that pass, the first within the limit is the one of greatest sequence within it
   pub search-greatest : (k prev p : ℕ) → versionsRefusal bytes test prev p k ≡ 0 → firstWithin bytes (limitOf limit) p k ≡ foundOf (greatest limit (versionsFrom bytes p k))
   search-greatest k prev p e = search-first k prev p e ∙ ap foundOf (first-greatest limit (versionsFrom bytes p k) (versions-fall bytes test k prev p e))
-
-  -- and never damage
-  pub search-whole : (k prev p : ℕ) → versionsRefusal bytes test prev p k ≡ 0 → firstWithin bytes (limitOf limit) p k ≡ Damaged → ⊥
-  search-whole k prev p e d = found-whole (greatest limit (versionsFrom bytes p k)) (sym (search-greatest k prev p e) ∙ d)

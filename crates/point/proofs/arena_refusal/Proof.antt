@@ -2,13 +2,13 @@
 -- whole walk. Assumes nothing.
 use mathlib.Core.Path.{_≡_, sym, ap, _∙_}
 use borrow.Author.Tests.{eq-eqb, ne-eqb}
+use Rattle.layout.proofs.HeaderLaws.{headed}
 use Rattle.records.specs.declared.DataLength.the-variants.{Of}
 use Rattle.records.specs.declared.Walked.{Walked}
 use Rattle.records.specs.Walk.{walkFrom}
 use Rattle.records.proofs.RuleLaws.{entered}
 use Rattle.records.proofs.WalkLaws.{walk-end, walk-stop, walk-on}
 use Rattle.point.specs.Validate.{slotRefusal, arenaRefusal, Stepping}
-use Rattle.layout.proofs.HeaderLaws.{headed}
 use Rattle.point.proofs.ValidateLaws.{arena-start, step-first, step-next}
 use native.Mathlib.Omega.{arith}
 use borrow.Author.Needs.{needs}

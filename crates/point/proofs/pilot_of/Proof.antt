@@ -1,9 +1,9 @@
 -- `pilot_of` reads the pilot of the hash's bucket, which stands before the slots. Assumes nothing.
 use Prim.Native.Nat.{_<_}
 use Rattle.mixing.specs.Mixing.{bucketOf-lt}
-use Rattle.layout.proofs.HeaderLaws.{headed, pilot-is}
 use native.Mathlib.Omega.{arith}
 use borrow.Author.Needs.{needs}
+use Rattle.layout.proofs.HeaderLaws.{headed, pilot-is}
 use Rattle.point.proofs.pilot_of.Statement.{statement}
 use Rattle.point.proofs.pilot_of.Tie as tie
 
