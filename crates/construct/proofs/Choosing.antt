@@ -14,7 +14,7 @@ use Rattle.construct.specs.Construct.{bucketsOf, tries, direct, group, s
 use Rattle.construct.specs.Promised.{Turn, LeastPilot, LowestSlot, Pilots}
 use Rattle.construct.proofs.SlotsLaws.{settle-free, settle-some}
 use Rattle.construct.proofs.Placed.{done, done-others, done-now, done-skips, done-none, done-all, done-turns, of-skips, of-one, of-several}
-use Rattle.construct.proofs.FitsLaws.{seat-fits, unseated}
+use Rattle.construct.proofs.FitsLaws.{tried-low, seat-fits, unseated}
 use Rattle.construct.proofs.TurnsLaws.{size-most, turn-spots}
 
 -- the pilots of the buckets that D names, and 0 for the others
@@ -44,7 +44,7 @@ module _ (hs : List ℕ) (pos : 0 < length hs) (k : ℕ) (low : k < bucketsOf (l
         record {
           placing = pl;
           turn = T;
-          tried = omega (arith, f .1);
+          tried = tried-low p (omega (arith, f .1));
           fits = seat-fits hs (group hs k) p (pl .slots) (turn-spots hs pos k low pl T p) (r .0 .1) (f .0);
           least = λ q l F. unseated hs (group hs k) q (pl .slots) (turn-spots hs pos k low pl T q) (least-before try tries 0 p (r .0 .1) (r .1) q (omega arith) l) F;
         },

@@ -1,5 +1,5 @@
 -- An attempt fails exactly where two members of a bucket have equal hashes, or a bucket of two or more finds no pilot. Assumes nothing.
-use Prim.Native.Nat.{ℕ, _-_, _≤_, _<_}
+use Prim.Native.Nat.{ℕ, _-_, _<_}
 use mathlib.Core.Path.{_≡_, refl, sym, ap, _∙_, subst}
 use mathlib.Core.Bool.{Bool, true, false, cond}
 use mathlib.Core.List.{List}
@@ -17,17 +17,8 @@ use Rattle.construct.specs.Construct.{bucketsOf, tries, members, group, 
 use Rattle.construct.specs.Promised.{Turn, EqualHashes, NoPilot, AttemptFails}
 use Rattle.construct.proofs.Placed.{member-of, key-place, of-skips, of-one, of-several}
 use Rattle.construct.proofs.PlacesLaws.{member-rank}
-use Rattle.construct.proofs.FitsLaws.{unseated, unfit}
+use Rattle.construct.proofs.FitsLaws.{low-tried, tried-low, unseated, unfit}
 use Rattle.construct.proofs.TurnsLaws.{turn-spots, slot-free, turn-fails}
-
--- the pilots that are tried are 0 to 99,999
-low-tried : (p : ℕ) → p ≤ 99999 → p < tries
-unfolding tries
-low-tried p l = omega arith
-
-tried-low : (p : ℕ) → p < tries → p ≤ 99999
-unfolding tries
-tried-low p l = omega arith
 
 module _ (hs : List ℕ) where
   -- equal hashes among the members of bucket k, at places i and j

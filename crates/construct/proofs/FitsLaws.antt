@@ -1,4 +1,4 @@
--- Seating a bucket's members succeeds exactly where the pilot puts them on distinct unoccupied positions. Assumes nothing.
+-- Which pilots are tried; seating a bucket's members succeeds exactly where the pilot puts them on distinct unoccupied positions. Assumes nothing.
 use Prim.Native.Nat.{ℕ, zero, suc, _≤_, _<_}
 use mathlib.Core.Path.{_≡_, refl, sym, ap, _∙_}
 use mathlib.Core.List.{List}
@@ -9,9 +9,18 @@ use native.Mathlib.Numerals.{lt-of-le-of-ne}
 use lib.ListN.{length, getD, set, length-set}
 use lib.Seq.{getD-set-same, getD-set-other}
 use Rattle.laws.specs.Steps.{steps-none, steps-more, steps-keep}
-use Rattle.construct.specs.Construct.{settle, spot, seat}
+use Rattle.construct.specs.Construct.{tries, settle, spot, seat}
 use Rattle.construct.specs.Promised.{Fits}
 use Rattle.construct.proofs.SlotsLaws.{settle-free, settle-some}
+
+-- the pilots that are tried are 0 to 99,999
+pub low-tried : (p : ℕ) → p ≤ 99999 → p < tries
+unfolding tries
+low-tried p l = omega arith
+
+pub tried-low : (p : ℕ) → p < tries → p ≤ 99999
+unfolding tries
+tried-low p l = omega arith
 
 module _ (hs ms : List ℕ) (p : ℕ) (s : List ℕ) (low : (i : ℕ) → spot hs ms p i < length s) where
   -- while j members sit: they fit, their slots are occupied, and none has become free

@@ -7,7 +7,7 @@ use mathlib.Core.Logic.{_⊎_}
 use lib.ListN.{length, getD}
 use Rattle.mixing.specs.Mixing.{bucketOf}
 use Rattle.laws.specs.Steps.{steps}
-use Rattle.construct.specs.Construct.{bucketsOf, tries, direct, group, size, spot, Placing, placeOf, placeDown, largest, blank, indexOf}
+use Rattle.construct.specs.Construct.{bucketsOf, direct, group, size, spot, Placing, placeOf, placeDown, largest, blank, indexOf}
 
 -- pilot p puts the keys ms on distinct unoccupied positions
 pub record Fits (hs ms : List ℕ) (p : ℕ) (slots : List ℕ) : Type 0 where
@@ -49,11 +49,11 @@ pub record Whole (hs : List ℕ) (pl : Placing) : Type 0 where
   pub found : (i : ℕ) → i < length hs → getD (pl .slots) (indexOf (getD hs i 0) (pl .pilots) (length hs)) 0 ≡ suc i
   pub holds : (a : ℕ) → a < length hs → (i : ℕ) × (i < length hs) × (getD (pl .slots) a 0 ≡ suc i) × (indexOf (getD hs i 0) (pl .pilots) (length hs) ≡ a)
 
--- v is the least pilot of bucket k, of two members or more
+-- v is the least pilot of bucket k, of two members or more, and one of 0 to 99,999
 pub record LeastPilot (hs : List ℕ) (k v : ℕ) : Type 0 where
   pub placing : Placing
   pub turn : Turn hs k placing
-  pub tried : v < tries
+  pub tried : v ≤ 99999
   pub fits : Fits hs (group hs k) v (placing .slots)
   pub least : (q : ℕ) → q < v → Fits hs (group hs k) q (placing .slots) → ⊥
 

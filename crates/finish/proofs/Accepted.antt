@@ -30,7 +30,7 @@ use Rattle.records.specs.Tables.{TableRules, TableInData}
 use Rattle.records.proofs.PassedLaws.{entries-count, place-rises, walk-ends}
 use Rattle.records.proofs.TableLaws.{table-tested}
 use Rattle.records.proofs.Theorems.{read-back, read-whole, table-few, table-most}
-use Rattle.construct.specs.Construct.{bucketsOf, tries, direct, size, Placing, slotBy, indexOf}
+use Rattle.construct.specs.Construct.{bucketsOf, direct, size, Placing, slotBy, indexOf}
 use Rattle.construct.specs.Keys.{keyOf, attemptHashes}
 use Rattle.construct.specs.Promised.{Whole, Pilots}
 use Rattle.construct.proofs.KeysLaws.{hashes-long}
@@ -100,7 +100,7 @@ pilots-fine body n i (suc k) h = ap (λ (t : Bool). cond t 22 (pilotsRefusal bod
 
 -- every pilot of an attempt is below 2^31 + n
 pilot-low : (hs pilots : List ℕ) → Pilots hs pilots → (k : ℕ) → k < bucketsOf (length hs) → getD pilots k 0 < 2147483648 + length hs
-unfolding direct tries
+unfolding direct
 pilot-low hs pilots P k l = go (size hs k) refl
   where
     go : (x : ℕ) → size hs k ≡ x → getD pilots k 0 < 2147483648 + length hs
