@@ -1,7 +1,9 @@
 -- Lists by their last element: what is changed there, what every element has, and the order of versions and keys. Assumes nothing.
-use Prim.Native.Nat.{_<_}
+use Prim.Native.Nat.{ℕ, _<_}
+use native.Mathlib.Omega.{arith}
 use mathlib.Core.Path.{_≡_, refl, ap}
-use mathlib.Core.List.{List, [], _∷_, _++_}
+use mathlib.Core.List.{List, [], _∷_, _++_, List·Memᴰ}
+use mathlib.Core.List.List·Memᴰ.{List·Memᴰ·head, List·Memᴰ·tail}
 use Rattle.laws.specs.Each.{Each}
 use Rattle.laws.specs.Each.Each.{each-none, each-more}
 use Rattle.words.specs.declared.part.Order.the-variants.{Less}
@@ -15,6 +17,10 @@ unfolding onLast
 last-changed f [] x = refl
 last-changed f (y ∷ []) x = refl
 last-changed {A} f (y ∷ z ∷ zs) x = ap (λ (l : List A). y ∷ l) (last-changed f (z ∷ zs) x)
+
+pub member-last : {A : Type 0} (xs : List A) (x : A) → List·Memᴰ x (xs ++ (x ∷ []))
+member-last [] x = List·Memᴰ·head refl
+member-last (y ∷ ys) x = List·Memᴰ·tail (member-last ys x)
 
 module _ {A : Type 0} {P : A → Type 0} where
   pub each-last : (xs : List A) (x : A) → Each P xs → P x → Each P (xs ++ (x ∷ []))
@@ -37,6 +43,15 @@ pub falls-on : (rs : List Record) (l r : Record) → Falls (rs ++ (l ∷ [])) �
 falls-on [] l r f h = falls-more h falls-one
 falls-on (a ∷ []) l r (falls-more g f) h = falls-more g (falls-on [] l r f h)
 falls-on (a ∷ b ∷ rs) l r (falls-more g f) h = falls-more g (falls-on (b ∷ rs) l r f h)
+
+-- what is below the last is below them all
+pub falls-above : (rs : List Record) (l : Record) (n : ℕ) → Falls (rs ++ (l ∷ [])) → n < l .sequence → Each (λ r. n < r .sequence) (rs ++ (l ∷ []))
+falls-above [] l n f h = each-more h each-none
+falls-above (a ∷ []) l n (falls-more g f) h = each-more {x = a} (omega arith) (falls-above [] l n f h)
+falls-above (a ∷ b ∷ rs) l n (falls-more g f) h = go (falls-above (b ∷ rs) l n f h)
+  where
+    go : Each (λ r. n < r .sequence) (b ∷ (rs ++ (l ∷ []))) → Each (λ r. n < r .sequence) (a ∷ b ∷ (rs ++ (l ∷ [])))
+    go (each-more p ps) = each-more {x = a} (omega arith) (each-more p ps)
 
 -- the version behind the last of those before it is below that one
 pub falls-end : (rs : List Record) (l r : Record) (ss : List Record) → Falls ((rs ++ (l ∷ [])) ++ (r ∷ ss)) → r .sequence < l .sequence

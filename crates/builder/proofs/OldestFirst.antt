@@ -1,30 +1,35 @@
 -- The error that started this project, a wash's versions added oldest first: to a taken list no call adds a record of the last key whose
--- sequence is not below the last one's, as a new key or as a continued one. Assumes nothing.
-use Prim.Native.Nat.{ℕ, _≤_}
+-- sequence is not below the last one's, as a new key or as a continued one; of whichever key a record that is added is, it is older than
+-- every one of that key in the list. Assumes nothing.
+use Prim.Native.Nat.{ℕ, _≤_, _<_}
 use mathlib.Core.Path.{_≡_, refl, sym, ap, _∙_}
 use mathlib.Core.Bool.{Bool, true, false}
 use mathlib.Core.List.{List, [], _∷_, _++_}
 use native.Mathlib.Omega.{arith}
 use borrow.Author.Tests.{le-ltb}
 use lib.ListN.{length}
+use Rattle.laws.specs.Each.{Each}
+use Rattle.laws.specs.Each.Each.{each-none}
 use Rattle.laws.specs.Refusals.{here, later}
-use Rattle.words.specs.declared.part.Order.the-variants.{Equal}
+use Rattle.words.specs.declared.part.Order.the-variants.{Less, Equal}
 use Rattle.words.specs.Part.{orderOf}
-use Rattle.words.proofs.Ordered.{order-self}
+use Rattle.words.proofs.Ordered.{same-equal, order-self, order-apart}
 use Rattle.records.specs.declared.Kind.{Kind}
 use Rattle.records.specs.declared.Kind.the-variants.{Tombstone}
 use Rattle.records.specs.declared.Record.{Record}
-use Rattle.records.specs.Model.{Entry}
+use Rattle.records.specs.Model.{Entry, recordsOf, Rises}
+use Rattle.records.proofs.ModelLaws.{rises-rest, rises-below, own-records}
 use Rattle.builder.specs.declared.PointBuilder.{PointBuilder}
 use Rattle.builder.specs.declared.Added.the-variants as added
 use Rattle.builder.specs.State.{lastOf}
-use Rattle.builder.specs.Add.{rises, newCauses, addCauses, addRefusal, addOf, bufferAfterAdd, addedNumber}
+use Rattle.builder.specs.Add.{rises, newCauses, addCauses, addRefusal, recordOf, newEntry, addOf, bufferAfterAdd, addedNumber}
 use Rattle.builder.specs.Taken.{entry, ending, Taken}
 use Rattle.builder.proofs.AddLaws.{Sized, rises-known, new-passed, continued-passed}
 use Rattle.builder.proofs.AnswerLaws.{refused-given, add-number}
-use Rattle.builder.proofs.ListLaws.{last-each}
+use Rattle.builder.proofs.ListLaws.{last-each, member-last, falls-above, rises-on}
+use Rattle.builder.proofs.HeldLaws.{entry-rules, last-read}
 use Rattle.builder.proofs.StepLaws.{valued-empty}
-use Rattle.builder.proofs.TakenTheorems.{taken-facts, taken-last}
+use Rattle.builder.proofs.TakenTheorems.{Held, held-none, held-some, new-greater, taken-held, taken-facts, taken-last}
 use Rattle.builder.proofs.Answers.{add-refuses, oldest-first-refused}
 
 module _ {s : PointBuilder} {buffer : List ℕ} (front : List Entry) (key : List ℕ) (before : List Record) (last : Record)
@@ -76,3 +81,37 @@ module _ {s : PointBuilder} {buffer : List ℕ} (front : List Entry) (key : List
       let e = last-each front (entry key (before ++ (last ∷ []))) (f .rules .entries) .1 in
       cause-four front key before last t kind size sequence h
       (record { fitting = f .fitting; short = e .small; small = small; valued = valued-empty kind size empty }) newKey
+
+-- ---- any key
+
+-- where keys rise, the last one has no records before its entry
+records-front : (es : List Entry) (e : Entry) → Rises (es ++ (e ∷ [])) → recordsOf es (e .key) ≡ []
+unfolding recordsOf
+records-front [] e g = refl
+records-front (x ∷ xs) e g =
+    rw (order-apart (x .key) (e .key) (rises-below x (xs ++ (e ∷ [])) e g (member-last xs e)) .0) (records-front xs e (rises-rest x (xs ++ (e ∷ [])) g))
+
+module _ (buffer key : List ℕ) (kind : Kind) (size sequence : ℕ) where
+  older-than : (newKey : Bool) (s : PointBuilder) (table : List Entry) → Held s buffer table → addRefusal s buffer key kind size sequence newKey ≡ 0
+      → Each (λ v. sequence < v .sequence) (recordsOf table key)
+  unfolding recordsOf
+  older-than newKey s table held-none z = each-none
+  older-than true s table (held-some front lastKey before last st) z =
+      let o : orderOf lastKey key ≡ Less = new-greater s buffer front lastKey before last st key (new-passed s buffer key kind size sequence z .1 .rising) in
+      let rising = rises-on front (entry lastKey (before ++ (last ∷ []))) (newEntry key (recordOf kind size sequence 0)) (st .rules .rises) o in
+      rw (records-front (ending front lastKey before last) (newEntry key (recordOf kind size sequence 0)) rising) each-none
+  older-than false s table (held-some front lastKey before last st) z =
+      let p = continued-passed s buffer key kind size sequence z .1 in
+      let l = last-read s buffer front lastKey before last st in
+      let same : lastKey ≡ key = same-equal lastKey key (rw l at (p .same)) in
+      let below : sequence < last .sequence = rw l at (p .older) in
+      let vs = before ++ (last ∷ []) in
+      let own : recordsOf (ending front lastKey before last) key ≡ vs =
+      ap (recordsOf (ending front lastKey before last)) (sym same)
+      ∙ own-records (ending front lastKey before last) (entry lastKey vs) (st .rules .rises) (member-last front (entry lastKey vs)) in
+      rw own (falls-above before last sequence (entry-rules s buffer front lastKey before last st .falls) below)
+
+  -- THEOREM: a record that is added to a taken list is older than every record of its key in the list
+  pub added-older : {s : PointBuilder} {table : List Entry} (newKey : Bool) → Taken s buffer table → addedNumber (addOf s buffer key kind size sequence newKey) ≡ 0
+      → Each (λ v. sequence < v .sequence) (recordsOf table key)
+  added-older {s} {table} newKey t z = older-than newKey s table (taken-held t) (sym (add-number s buffer key kind size sequence newKey) ∙ z)

@@ -34,6 +34,14 @@ pub data Held : PointBuilder → List ℕ → List Entry → Type 0 where
   held-none : {buffer : List ℕ} → Held emptyBuilder buffer []
   held-some : {s : PointBuilder} {buffer : List ℕ} (front : List Entry) (key : List ℕ) (before : List Record) (last : Record) → Standing s buffer front key before last → Held s buffer (ending front key before last)
 
+-- a new key that add takes is greater than the last one held
+pub new-greater : (s : PointBuilder) (buffer : List ℕ) (front : List Entry) (lastKey : List ℕ) (before : List Record) (last : Record)
+    → Standing s buffer front lastKey before last → (key : List ℕ) → rises s (lastOf s buffer) key ≡ true → orderOf lastKey key ≡ Less
+new-greater s buffer front lastKey before last st key r =
+    less-is (orderOf lastKey key)
+    (rises-known s buffer key (keyed s buffer front lastKey before last st) (orderOf lastKey key)
+    (ap (λ (k : List ℕ). orderOf k key) (read-key s buffer front lastKey before last st)) ∙ r)
+
 -- ---- each way keeps it
 
 module _ (buffer key : List ℕ) (kind : Kind) (size sequence : ℕ) (q : sequence < 2 ^ 64) where
@@ -47,8 +55,7 @@ module _ (buffer key : List ℕ) (kind : Kind) (size sequence : ℕ) (q : sequen
   held-new s table (held-some front lastKey before last st) z =
       let p = new-passed s buffer key kind size sequence z in
       let r = new-ready s buffer key kind size sequence true refl z in
-      let o : orderOf lastKey key ≡ Less =
-      less-is (orderOf lastKey key) (rises-known s buffer key (keyed s buffer front lastKey before last st) (orderOf lastKey key) (ap (λ (k : List ℕ). orderOf k key) (read-key s buffer front lastKey before last st)) ∙ p .1 .rising) in
+      let o : orderOf lastKey key ≡ Less = new-greater s buffer front lastKey before last st key (p .1 .rising) in
       held-some (ending front lastKey before last) key [] (recordOf kind size sequence 0)
       (new-stands s buffer key (ending front lastKey before last) (recordOf kind size sequence 0) (st .bytes) (r .0) (st .counted ∙ sym (length-append front (entry lastKey (before ++ (last ∷ [])) ∷ []))) (r .2) (r .1)
       (record-rules kind size sequence (p .0 .small) (p .0 .valued) q) (st .rules .entries)

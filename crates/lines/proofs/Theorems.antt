@@ -5,7 +5,7 @@ use native.Mathlib.Nat.{zero-add}
 use native.Mathlib.Omega.{arith}
 use mathlib.Core.Path.{_≡_, refl, sym, ap, _∙_, subst}
 use mathlib.Core.Bool.{Bool, true, false, cond}
-use mathlib.Core.List.{List, [], _∷_, _++_, append-nil, List·Memᴰ}
+use mathlib.Core.List.{List, [], _∷_, _++_, List·Memᴰ}
 use mathlib.Core.List.List·Memᴰ.{List·Memᴰ·head, List·Memᴰ·tail}
 use mathlib.Core.Option.{Option, none, some}
 use lib.ListN.{length}
@@ -14,13 +14,13 @@ use lib.Dec.{leb}
 use Rattle.words.specs.Field.{splice}
 use Rattle.words.specs.declared.part.Order.the-variants.{Less}
 use Rattle.words.specs.Part.{orderOf, sameAs}
-use Rattle.words.proofs.Ordered.{same-self, same-equal, order-apart, order-trans}
+use Rattle.words.proofs.Ordered.{same-equal, order-trans}
 use Rattle.records.specs.declared.Limit.{Limit}
 use Rattle.records.specs.declared.Limit.the-variants.{None, UpTo}
 use Rattle.records.specs.declared.Record.{Record}
 use Rattle.records.specs.Model.{Entry, recordsOf, greatest, lookup, Rises}
 use Rattle.records.specs.Model.Rises.{rises-more}
-use Rattle.records.proofs.ModelLaws.{rises-rest, records-behind}
+use Rattle.records.proofs.ModelLaws.{own-records}
 use Rattle.lines.specs.declared.Listed.{Listed}
 use Rattle.lines.specs.declared.Listed.the-variants.{Text, Refused}
 use Rattle.lines.specs.Shown.{Rule, tombstoneIn, newestTombstone, shown, Shows, showsFor, shownOf, ShownRise, shownOne, shownCount}
@@ -28,15 +28,6 @@ use Rattle.lines.specs.Shown.ShownRise.{shown-none, shown-one, shown-mor
 use Rattle.lines.specs.Listing.{lineOf, lineFor, linesOf, textOfShown, textOf, listedOf, bufferOf, listedNumber, listedValues, Listing}
 
 -- ---- a key's records in a table whose keys rise are its entry's
-
-rises-below : (e : Entry) (es : List Entry) (f : Entry) → Rises (e ∷ es) → List·Memᴰ f es → orderOf (e .key) (f .key) ≡ Less
-rises-below e (x ∷ es) f (rises-more b g) (List·Memᴰ·head q) = ap (λ (y : Entry). orderOf (e .key) (y .key)) q ∙ b
-rises-below e (x ∷ es) f (rises-more b g) (List·Memᴰ·tail m) = order-trans (e .key) (x .key) (f .key) b (rises-below x es f g m)
-
-own-records : (t : List Entry) (e : Entry) → Rises t → List·Memᴰ e t → recordsOf t (e .key) ≡ e .versions
-unfolding recordsOf
-own-records (x ∷ xs) e g (List·Memᴰ·head q) = rw (q, same-self (x .key), records-behind x xs g) (append-nil (x .versions))
-own-records (x ∷ xs) e g (List·Memᴰ·tail m) = rw (order-apart (x .key) (e .key) (rises-below x xs e g m) .0) (own-records xs e (rises-rest x xs g) m)
 
 own-lookup : (t : List Entry) (e : Entry) (limit : Limit) → Rises t → List·Memᴰ e t → greatest limit (e .versions) ≡ lookup t (e .key) limit
 unfolding lookup

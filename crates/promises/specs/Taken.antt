@@ -1,7 +1,7 @@
 -- Taken lists. A list that keeps the rules is taken, a taken list keeps them, and it stays taken where its buffer grows. And the error that
 -- started this project: a tool added the versions of a corrected wash oldest first, nothing checked it, and a lookup gave the withdrawn
 -- figure. No call that meets add's contract takes such a version, as a new key or as a continued one. Assumes nothing.
-use Prim.Native.Nat.{ℕ, _≤_}
+use Prim.Native.Nat.{ℕ, _≤_, _<_}
 use mathlib.Core.Path.{_≡_, sym, ap, _∙_}
 use mathlib.Core.Bool.{Bool}
 use mathlib.Core.List.{List}
@@ -12,7 +12,7 @@ use Rattle.records.specs.declared.Kind.{Kind}
 use Rattle.records.specs.declared.Kind.the-variants.{Tombstone}
 use Rattle.records.specs.declared.Record.{Record}
 use Rattle.records.specs.declared.DataLength.the-variants.{Untested}
-use Rattle.records.specs.Model.{Entry, tableBytes}
+use Rattle.records.specs.Model.{Entry, tableBytes, recordsOf}
 use Rattle.records.specs.Tables.{TableRules}
 use Rattle.builder.specs.declared.PointBuilder.{PointBuilder}
 use Rattle.builder.specs.declared.Added.{Added}
@@ -60,3 +60,9 @@ module _ {s : PointBuilder} {buffer : List ℕ} (front : List Entry) (key : List
   oldest-first-four t h small empty P =
       let f = oldest.oldest-first-four front key before last kind size sequence newKey t h small empty in
       (ap addedNumber (P .answer ∙ f .0), P .buffer ∙ f .1)
+
+-- THEOREM: of whichever key, a call adds a record to a taken list only where it is older than every record of that key in the list
+pub added-older : {s : PointBuilder} {buffer : List ℕ} {list : List Entry} {key : List ℕ} {kind : Kind} {size sequence : ℕ} {newKey : Bool} {r : Added} {after : List ℕ}
+    → Taken s buffer list → AddPost s buffer key kind size sequence newKey r after → addedNumber r ≡ 0 → Each (λ v. sequence < v .sequence) (recordsOf list key)
+added-older {s} {buffer} {list} {key} {kind} {size} {sequence} {newKey} t P z =
+    oldest.added-older buffer key kind size sequence newKey t (ap addedNumber (sym (P .answer)) ∙ z)

@@ -1,8 +1,9 @@
 -- Laws of the model: the rest of versions that fall and of keys that rise, a key's records among rising keys, what is less, what the
 -- greatest record within a limit has, and that a record or none is no damage. Assumes nothing.
-use mathlib.Core.Path.{_≡_, refl}
+use mathlib.Core.Path.{_≡_, refl, ap, _∙_}
 use mathlib.Core.Bool.{Bool, true, false, cond, _&&_}
-use mathlib.Core.List.{List, [], _∷_}
+use mathlib.Core.List.{List, [], _∷_, append-nil, List·Memᴰ}
+use mathlib.Core.List.List·Memᴰ.{List·Memᴰ·head, List·Memᴰ·tail}
 use mathlib.Core.Option.{Option, none, some}
 use Prim.Native.Nat.{ℕ}
 use native.Mathlib.Omega.{arith}
@@ -12,7 +13,7 @@ use Rattle.laws.specs.Each.Each.{each-none, each-more}
 use Rattle.words.specs.declared.part.Order.{Order}
 use Rattle.words.specs.declared.part.Order.the-variants.{Less, Equal, Greater}
 use Rattle.words.specs.Part.{orderOf}
-use Rattle.words.proofs.Ordered.{order-apart, order-trans}
+use Rattle.words.proofs.Ordered.{same-self, order-apart, order-trans}
 use Rattle.records.specs.declared.Record.{Record}
 use Rattle.records.specs.declared.Limit.{Limit}
 use Rattle.records.specs.declared.Within.the-variants.{Damaged}
@@ -40,6 +41,17 @@ pub records-behind : (e : Entry) (es : List Entry) → Rises (e ∷ es) → reco
 unfolding recordsOf
 records-behind e [] g = refl
 records-behind e (f ∷ es) (rises-more b g) = records-above (e .key) f es b g
+
+-- where keys rise, each is below those behind it
+pub rises-below : (e : Entry) (es : List Entry) (f : Entry) → Rises (e ∷ es) → List·Memᴰ f es → orderOf (e .key) (f .key) ≡ Less
+rises-below e (x ∷ es) f (rises-more b g) (List·Memᴰ·head q) = ap (λ (y : Entry). orderOf (e .key) (y .key)) q ∙ b
+rises-below e (x ∷ es) f (rises-more b g) (List·Memᴰ·tail m) = order-trans (e .key) (x .key) (f .key) b (rises-below x es f g m)
+
+-- and the records of an entry's key are its versions
+pub own-records : (t : List Entry) (e : Entry) → Rises t → List·Memᴰ e t → recordsOf t (e .key) ≡ e .versions
+unfolding recordsOf
+own-records (x ∷ xs) e g (List·Memᴰ·head q) = rw (q, same-self (x .key), records-behind x xs g) (append-nil (x .versions))
+own-records (x ∷ xs) e g (List·Memᴰ·tail m) = rw (order-apart (x .key) (e .key) (rises-below x xs e g m) .0) (own-records xs e (rises-rest x xs g) m)
 
 pub less-is : (o : Order) → isLess o ≡ true → o ≡ Less
 less-is Less e = refl
