@@ -2,8 +2,8 @@
 -- and values of each answer that is no refusal), `Boundary` (demand 1 of the C boundary's own refusals), `Accepted` (demand 3 of any bytes that
 -- validation accepts), `Taken` (taken lists, and that no call adds versions oldest first), `Finished` (demand 3 of a list that was taken and
 -- finished), `Filter` (demand 3 of a filter), `Listed` (what the desk reads), `Unique` (each call's result is fixed), `Example` (document 01's
--- example, finished, accepted and listed, byte for byte), `Figures` (P1 to P9), and `IdleAdd`, `IdleIndex`, `IdleFilter` (the idle programs,
--- each shut out on a concrete input).
+-- example, finished, accepted and listed, byte for byte), `Unplaced` (a list that finish answers 10 to), `Figures` (P1 to P9), and `IdleAdd`,
+-- `IdleIndex`, `IdleFilter` (the idle programs, each shut out on a concrete input).
 pub mod Refused
 pub mod Answers
 pub mod Boundary
@@ -14,6 +14,7 @@ pub mod Filter
 pub mod Listed
 pub mod Unique
 pub mod Example
+pub mod Unplaced
 pub mod Figures
 pub mod IdleAdd
 pub mod IdleIndex

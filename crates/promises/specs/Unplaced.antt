@@ -1,0 +1,130 @@
+-- 10 is given: two keys of 16 bytes have equal hashes under each of the eight seeds, so a list of them is taken and no attempt places it; whatever
+-- meets finish's contract on its bytes, with room, answers 10. Assumes nothing.
+use Prim.Native.Nat.{ℕ, _≤_, _<_}
+use native.Mathlib.Omega.{arith}
+use mathlib.Core.Path.{_≡_, refl, sym, ap, _∙_, subst}
+use mathlib.Core.List.{List, [], _∷_}
+use mathlib.Core.Logic.{inl}
+use lib.ListN.{length, take}
+use Rattle.laws.specs.Each.{Each, each-none, each-more}
+use Rattle.words.specs.Field.{spelled, le, bytesOf}
+use Rattle.words.specs.Part.{orderOf}
+use Rattle.words.proofs.Laws.{AllBytes, bytes-tested}
+use Rattle.mixing.specs.Mixing.{hashOf, bucketOf, seedOf}
+use Rattle.mixing.specs.Example.{equal-pair}
+use Rattle.records.specs.declared.DataLength.the-variants.{Untested}
+use Rattle.records.specs.declared.Kind.the-variants.{Put}
+use Rattle.records.specs.declared.Record.{Record}
+use Rattle.records.specs.Model.{Entry, versionBytes, versionsBytes, entryBytes, tableBytes}
+use Rattle.records.specs.Places.{keyAt, recordAt, versionsFrom, entryAt, entriesFrom, entryPlace}
+use Rattle.records.specs.Rules.{unslotted, keyRises, keyRefusal, sequenceFalls, versionRefusal, versionsRefusal, entryRefusal}
+use Rattle.records.specs.Tables.{TableRules}
+use Rattle.records.specs.Walk.{walkFrom}
+use Rattle.records.proofs.Theorems.{read-back}
+use Rattle.builder.specs.Taken.{KeyBytes, TakenInto}
+use Rattle.construct.specs.Construct.{bucketsOf}
+use Rattle.construct.specs.Keys.{hashesOf, attemptHashes}
+use Rattle.construct.specs.Promised.{AttemptFails}
+use Rattle.finish.specs.declared.Finished.{Finished}
+use Rattle.finish.specs.Body.{arenaStart}
+use Rattle.finish.specs.Finish.{walked, keysOf, lengthsRefusal, bodyLength, FinishPost, finishedNumber}
+use Rattle.finish.proofs.LengthLaws.{length-fits}
+use Rattle.promises.specs.Refused.{cause-ten}
+use Rattle.promises.specs.Taken.{list-taken, taken-kept}
+
+-- ---- the list
+
+-- 41 41 41 41 41 41 41 41 42 42 42 42 42 42 42 42 and 41 41 41 41 51 41 41 41 42 42 42 42 42 42 42 c2, in hex
+abbrev pub oneKey : List ℕ
+oneKey = 65 ∷ 65 ∷ 65 ∷ 65 ∷ 65 ∷ 65 ∷ 65 ∷ 65 ∷ 66 ∷ 66 ∷ 66 ∷ 66 ∷ 66 ∷ 66 ∷ 66 ∷ 66 ∷ []
+
+abbrev pub otherKey : List ℕ
+otherKey = 65 ∷ 65 ∷ 65 ∷ 65 ∷ 81 ∷ 65 ∷ 65 ∷ 65 ∷ 66 ∷ 66 ∷ 66 ∷ 66 ∷ 66 ∷ 66 ∷ 66 ∷ 194 ∷ []
+
+-- a put of 8 bytes of each
+unfoldable pub pairTable : List Entry
+pairTable =
+    record { key = oneKey; versions = record { kind = Put; sequence = 9; offset = 0; length = 8 } ∷ [] }
+    ∷ record { key = otherKey; versions = record { kind = Put; sequence = 7; offset = 8; length = 8 } ∷ [] }
+    ∷ []
+
+unfoldable pub pairArena : List ℕ
+pairArena = tableBytes pairTable
+
+pair-bytes : AllBytes pairArena
+unfolding pairArena pairTable tableBytes entryBytes versionsBytes versionBytes bytesOf
+pair-bytes = bytes-tested pairArena refl
+
+pair-keys : keysOf pairArena ≡ 2
+unfolding pairArena pairTable tableBytes entryBytes versionsBytes versionBytes bytesOf le spelled walked walkFrom entryRefusal keyRefusal keyRises keyAt orderOf versionsRefusal versionRefusal sequenceFalls
+pair-keys = refl
+
+pair-end : walked pairArena .end ≡ length pairArena
+unfolding pairArena pairTable tableBytes entryBytes versionsBytes versionBytes bytesOf le spelled walked walkFrom entryRefusal keyRefusal keyRises keyAt orderOf versionsRefusal versionRefusal sequenceFalls
+pair-end = refl
+
+pair-length : bodyLength pairArena (keysOf pairArena) ≡ 150
+unfolding arenaStart bucketsOf pairArena pairTable tableBytes entryBytes versionsBytes versionBytes bytesOf
+pair-length = rw pair-keys
+
+pair-entries : entriesFrom pairArena 0 (keysOf pairArena) ≡ pairTable
+unfolding pairArena pairTable tableBytes entryBytes versionsBytes versionBytes bytesOf le spelled keyAt entriesFrom entryAt versionsFrom recordAt
+pair-entries = rw pair-keys
+
+pair-rules : TableRules Untested pairTable
+unfolding walked
+pair-rules = subst (TableRules Untested) pair-entries (read-back unslotted pairArena Untested 0 0 (length pairArena) pair-bytes (omega arith) .rules)
+
+pair-key-bytes : Each KeyBytes pairTable
+unfolding pairTable
+pair-key-bytes = each-more (bytes-tested oneKey refl) (each-more (bytes-tested otherKey refl) each-none)
+
+-- THEOREM: the builder takes it, into any buffer of 90 bytes or more
+pub pair-taken : (buffer : List ℕ) → 90 ≤ length buffer → TakenInto buffer pairTable
+unfolding pairTable tableBytes entryBytes versionsBytes versionBytes bytesOf
+pair-taken buffer room = list-taken pairTable pair-rules pair-key-bytes (omega arith) buffer room
+
+-- THEOREM: and the used bytes are its arena
+pub pair-used : {buffer : List ℕ} (T : TakenInto buffer pairTable) → take (T .state .used) (T .after) ≡ pairArena
+unfolding pairArena
+pair-used T = taken-kept (T .taken) .3
+
+-- ---- no attempt places it
+
+pair-hashes : (i : ℕ) → attemptHashes pairArena 2 i ≡ hashOf (seedOf i) oneKey ∷ hashOf (seedOf i) otherKey ∷ []
+unfolding attemptHashes hashesOf pairArena pairTable tableBytes entryBytes versionsBytes versionBytes bytesOf le spelled entryPlace keyAt
+pair-hashes i = refl
+
+-- two members of a bucket have equal hashes
+equal-fails : (h g : ℕ) → h ≡ g → AttemptFails (h ∷ g ∷ [])
+equal-fails h g e = inl (record {
+  one = 0;
+  other = 1;
+  keys = (omega arith, omega arith);
+  apart = λ z. omega arith;
+  bucket = ap (λ (x : ℕ). bucketOf x (bucketsOf 2)) e;
+  equal = e;
+})
+
+-- THEOREM: each of the eight attempts fails
+pub pair-fails : (i : ℕ) → i < 8 → AttemptFails (attemptHashes pairArena (keysOf pairArena) i)
+pair-fails i l =
+    subst AttemptFails (sym (ap (λ (n : ℕ). attemptHashes pairArena n i) pair-keys ∙ pair-hashes i))
+    (equal-fails (hashOf (seedOf i) oneKey) (hashOf (seedOf i) otherKey) (equal-pair i l))
+
+-- room for its body: 150 bytes, 4 words of 64 bits, 24 of 32
+pub record PairRoom (o w u : List ℕ) : Type 0 where
+  pub out : 150 ≤ length o
+  pub wide : 4 ≤ length w
+  pub narrow : 24 ≤ length u
+
+-- THEOREM: whatever meets finish's contract on it, with room, answers 10
+pub ten-given : {o w u o' w' u' : List ℕ} {r : Finished} → PairRoom o w u → FinishPost pairArena o w u r o' w' u' → finishedNumber r ≡ 10
+ten-given {o} {w} {u} R P = cause-ten P fits pair-fails
+  where
+    fits : lengthsRefusal pairArena (length o) (length w) (length u) ≡ 0
+    fits =
+        let keys = pair-keys in
+        sym
+        (length-fits (length pairArena) (walked pairArena .end) (keysOf pairArena) (length o) (length w) (length u) pair-end
+        (λ z. omega arith) (omega arith) (omega (arith, R .wide)) (omega (arith, R .narrow)) (omega (arith, pair-length, R .out)))
