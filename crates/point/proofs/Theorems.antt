@@ -3,7 +3,7 @@
 use Prim.Native.Nat.{ℕ, _+_, _<_}
 use native.Mathlib.Omega.{arith}
 use mathlib.Core.Path.{_≡_, refl, sym, ap, _∙_}
-use mathlib.Core.List.{List, [], _++_}
+use mathlib.Core.List.{List, _++_}
 use mathlib.Core.Option.{Option, none, some}
 use mathlib.Core.Logic.{⊎-elim}
 use lib.ListN.{length, take, drop, take-append-drop}
@@ -16,7 +16,7 @@ use Rattle.records.specs.declared.DataLength.the-variants.{Of}
 use Rattle.records.specs.declared.Limit.{Limit}
 use Rattle.records.specs.declared.Record.{Record}
 use Rattle.records.specs.declared.Walked.{Walked}
-use Rattle.records.specs.Model.{Entry, tableBytes, within, limitOf, recordsOf, greatest, lookup}
+use Rattle.records.specs.Model.{Entry, tableBytes, limitOf, recordsOf, greatest, lookup}
 use Rattle.records.specs.Places.{versionsFrom, entryPlace}
 use Rattle.records.specs.Tables.{RecordRules, TableRules}
 use Rattle.records.specs.Walk.{walkFrom}

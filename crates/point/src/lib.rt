@@ -22,7 +22,7 @@ ghost use mathlib.Core.Bool.{false};
 ghost use Prim.Native.Nat.{_+_, _≤_};
 ghost use lib.ListN.{length};
 ghost use denote.Ref.{ptr};
-ghost use Rattle.layout.specs.Layout.{headerRefusal, seedIn, keysIn, bucketsIn, arenaIn, pilotOf, directPast, slotOf, slotPlace};
+ghost use Rattle.layout.specs.Layout.{headerRefusal, keysIn, bucketsIn, arenaIn, pilotOf, directPast, slotOf, slotPlace};
 ghost use Rattle.point.specs.Validate.{pilotsRefusal, slotTest, slotRefusal, arenaRefusal, validationRefusal, validateOf, Checked, Reached, Stepping};
 ghost use Rattle.point.specs.Get.{locateHash, locateOf, openRecordOf, openOf, answerOf, getOf, ValuePost};
 ghost use Rattle.records.specs.declared.DataLength.the-variants.{Of};

@@ -24,7 +24,8 @@ use Rattle.records.specs.Rules.{unslotted, keyRises, keyRefusal, sequenceFalls,
 use Rattle.records.specs.Tables.{TableRules, TableInData}
 use Rattle.records.specs.Walk.{walkFrom}
 use Rattle.records.proofs.Theorems.{read-back}
-use Rattle.builder.specs.Taken.{KeyBytes, TakenInto}
+use Rattle.builder.specs.declared.PointBuilder.{PointBuilder}
+use Rattle.builder.specs.Taken.{KeyBytes, Taken, TakenInto}
 use Rattle.construct.specs.Construct.{bucketsOf, tries, attempts, members, group, size, alike, met, twins, twinsAt, anyTwins, settle, spot, seat, Placing, noted, placeGroup, placeOf, placeSize, placeDown, largest, blank, attemptFrom, attemptOf, constructOf}
 use Rattle.construct.specs.Keys.{hashesOf, attemptHashes}
 use Rattle.construct.proofs.Figures.{one-bucket}
@@ -90,10 +91,10 @@ pub example-taken : (buffer : List ℕ) → 132 ≤ length buffer → TakenInto 
 unfolding exampleTable tableBytes entryBytes versionsBytes versionBytes bytesOf
 example-taken buffer room = list-taken exampleTable example-rules key-bytes (omega arith) buffer room
 
--- THEOREM: and the used bytes are its arena
-pub example-used : {buffer : List ℕ} (T : TakenInto buffer exampleTable) → take (T .state .used) (T .after) ≡ exampleArena
+-- THEOREM: and where it is taken, the used bytes are its arena
+pub example-used : {s : PointBuilder} {buffer : List ℕ} → Taken s buffer exampleTable → take (s .used) buffer ≡ exampleArena
 unfolding exampleArena
-example-used T = taken-kept (T .taken) .3
+example-used t = taken-kept t .3
 
 -- ---- the attempt
 

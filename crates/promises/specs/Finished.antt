@@ -31,7 +31,7 @@ use Rattle.builder.proofs.TakenBuffer.{taken-bytes}
 use Rattle.finish.specs.declared.Finished.{Finished}
 use Rattle.finish.specs.declared.Finished.the-variants.{Body}
 use Rattle.finish.specs.Body.{arenaStart, bodyOf}
-use Rattle.finish.specs.Finish.{walked, keysOf, finishRefusal, finishOf, outAfter, FinishPost, finishedNumber}
+use Rattle.finish.specs.Finish.{walked, keysOf, lengthsRefusal, finishRefusal, finishOf, outAfter, FinishPost, finishedNumber}
 use Rattle.finish.proofs.LengthLaws.{length-fits}
 use Rattle.finish.proofs.Answers.{finish-number, body-or-ten}
 use Rattle.finish.proofs.Accepted.{made, finish-accepted, finish-table, finish-length, finish-bytes, finish-get}
@@ -109,13 +109,12 @@ module _ {s : PointBuilder} {buffer : List ℕ} {list : List Entry} {o w u o' w'
       (value-part p (list-accepted (length bytes) inside)
       (subst AllBytes (sym body) (finish-bytes (take (s .used) buffer) (length o) (length w) (length u) k (taken-bytes t) answered)))
 
--- THEOREM: a taken list with a record, where output and workspace are long enough, is finished, or no attempt places its keys (10)
-pub taken-answered : {s : PointBuilder} {buffer : List ℕ} {list : List Entry} {o w u o' w' u' : List ℕ} {r : Finished}
-    → Taken s buffer list → FinishPost (take (s .used) buffer) o w u r o' w' u' → 0 < length list
-    → 2 * length list ≤ length w → 8 * length list + 8 ≤ length u → arenaStart (length list) + s .used ≤ length o
-    → (finishedNumber r ≡ 0) ⊎ (finishedNumber r ≡ 10)
+-- THEOREM: a taken list with a record passes finish's length checks where output and workspace are long enough
+pub lengths-pass : {s : PointBuilder} {buffer : List ℕ} {list : List Entry} {out wide narrow : ℕ} → Taken s buffer list → 0 < length list
+    → 2 * length list ≤ wide → 8 * length list + 8 ≤ narrow → arenaStart (length list) + s .used ≤ out
+    → (keysOf (take (s .used) buffer) ≡ length list) × (lengthsRefusal (take (s .used) buffer) out wide narrow ≡ 0)
 unfolding walked
-taken-answered {s} {buffer} {list} {o} {w} {u} {o'} {w'} {u'} {r} t P any wide narrow room =
+lengths-pass {s} {buffer} {list} {out} {wide} {narrow} t any w u room =
     let arena = take (s .used) buffer in
     let facts = taken-facts t in
     let few = facts .few in
@@ -123,8 +122,16 @@ taken-answered {s} {buffer} {list} {o} {w} {u} {o'} {w'} {u'} {r} t P any wide n
     let keys : keysOf arena ≡ length list = ap keysOf (facts .bytes) ∙ walk .0 in
     let end : walked arena .end ≡ length arena = ap (λ (a : List ℕ). walked a .end) (facts .bytes) ∙ walk .1 ∙ ap length (sym (facts .bytes)) in
     let none : keysOf arena ≡ 0 → ⊥ = λ z. omega arith in
-    let fits : arenaStart (keysOf arena) + length arena ≤ length o =
-    subst (λ (n : ℕ). arenaStart n + length arena ≤ length o) (sym keys) (omega (arith, length-take (s .used) buffer)) in
+    let fits : arenaStart (keysOf arena) + length arena ≤ out =
+    subst (λ (n : ℕ). arenaStart n + length arena ≤ out) (sym keys) (omega (arith, length-take (s .used) buffer)) in
+    (keys, sym (length-fits (length arena) (walked arena .end) (keysOf arena) out wide narrow end none (omega arith) (omega arith) (omega arith) fits))
+
+-- THEOREM: so it is finished, or no attempt places its keys (10)
+pub taken-answered : {s : PointBuilder} {buffer : List ℕ} {list : List Entry} {o w u o' w' u' : List ℕ} {r : Finished}
+    → Taken s buffer list → FinishPost (take (s .used) buffer) o w u r o' w' u' → 0 < length list
+    → 2 * length list ≤ length w → 8 * length list + 8 ≤ length u → arenaStart (length list) + s .used ≤ length o
+    → (finishedNumber r ≡ 0) ⊎ (finishedNumber r ≡ 10)
+taken-answered {s} {buffer} {list} {o} {w} {u} t P any wide narrow room =
+    let pass = lengths-pass t any wide narrow room in
     subst (λ (x : Finished). (finishedNumber x ≡ 0) ⊎ (finishedNumber x ≡ 10)) (sym (P .answer))
-    (body-or-ten arena (length o) (length w) (length u) (omega arith)
-    (sym (length-fits (length arena) (walked arena .end) (keysOf arena) (length o) (length w) (length u) end none (omega arith) (omega arith) (omega arith) fits)))
+    (body-or-ten (take (s .used) buffer) (length o) (length w) (length u) (omega (arith, pass .0)) (pass .1))

@@ -43,17 +43,6 @@ use Rattle.promises.specs.Example.{exampleBody, ExampleRoom, example-out
 abbrev pub putOf : (sequence offset : ℕ) → Record
 putOf sequence offset = record { kind = Put; sequence = sequence; offset = offset; length = 8 }
 
--- ---- get on the bytes that finish answers
-
-module _ {arena o w u o' w' u' : List ℕ} {k : ℕ} (all : AllBytes arena) (P : FinishPost arena o w u (Body k) o' w' u') where
-  -- THEOREM: it is the lookup in the arena's table
-  pub output-get : (table : List Entry) → entriesFrom arena 0 (keysOf arena) ≡ table → (cover : ℕ) → TableInData cover table → (key : List ℕ)
-      → getOf (take k o') cover key None ≡ answerTo (lookup table key None)
-  output-get table t cover inside key =
-      ap (λ (b : List ℕ). getOf b cover key None) (output-body all P)
-      ∙ finish-get arena (length o) (length w) (length u) k all (sym (P .answer)) cover (subst (TableInData cover) (sym t) inside) key None
-      ∙ ap (λ (x : List Entry). answerTo (lookup x key None)) t
-
 -- ---- one key
 
 -- key A alone
@@ -127,7 +116,10 @@ module _ {o w u o' w' u' : List ℕ} {r : Finished} (R : OneRoom o w u) (P : Fin
   unfolding oneTable lookup recordsOf greatest better within sameAs
   one-found =
       let inside : 0 + 8 ≤ 8 = omega arith in
-      output-get one-bytes one-post oneTable one-entries 8 (each-more (each-more inside each-none) each-none) (65 ∷ [])
+      let covered : TableInData 8 oneTable = each-more (each-more inside each-none) each-none in
+      ap (λ (b : List ℕ). getOf b 8 (65 ∷ []) None) (output-body one-bytes one-post)
+      ∙ finish-get oneArena (length o) (length w) (length u) 78 one-bytes (sym (one-post .answer)) 8 (subst (TableInData 8) (sym one-entries) covered) (65 ∷ []) None
+      ∙ ap (λ (t : List Entry). answerTo (lookup t (65 ∷ []) None)) one-entries
 
   -- THEOREM: a get that always says nothing is shut out
   pub never-nothing : getOf (take 78 o') 8 (65 ∷ []) None ≡ Nothing → ⊥

@@ -1,6 +1,6 @@
 -- 10 is given: two keys of 16 bytes have equal hashes under each of the eight seeds, so a list of them is taken and no attempt places it; whatever
--- meets finish's contract on its bytes, with room, answers 10. Assumes nothing.
-use Prim.Native.Nat.{ℕ, _≤_, _<_}
+-- meets finish's contract on its used bytes, with room, answers 10. Assumes nothing.
+use Prim.Native.Nat.{ℕ, _+_, _≤_, _<_}
 use native.Mathlib.Omega.{arith}
 use mathlib.Core.Path.{_≡_, refl, sym, ap, _∙_, subst}
 use mathlib.Core.List.{List, [], _∷_}
@@ -14,23 +14,24 @@ use Rattle.mixing.specs.Mixing.{hashOf, bucketOf, seedOf}
 use Rattle.mixing.specs.Example.{equal-pair}
 use Rattle.records.specs.declared.DataLength.the-variants.{Untested}
 use Rattle.records.specs.declared.Kind.the-variants.{Put}
-use Rattle.records.specs.declared.Record.{Record}
 use Rattle.records.specs.Model.{Entry, versionBytes, versionsBytes, entryBytes, tableBytes}
 use Rattle.records.specs.Places.{keyAt, recordAt, versionsFrom, entryAt, entriesFrom, entryPlace}
 use Rattle.records.specs.Rules.{unslotted, keyRises, keyRefusal, sequenceFalls, versionRefusal, versionsRefusal, entryRefusal}
 use Rattle.records.specs.Tables.{TableRules}
 use Rattle.records.specs.Walk.{walkFrom}
 use Rattle.records.proofs.Theorems.{read-back}
-use Rattle.builder.specs.Taken.{KeyBytes, TakenInto}
+use Rattle.builder.specs.declared.PointBuilder.{PointBuilder}
+use Rattle.builder.specs.Taken.{KeyBytes, Taken, TakenInto}
+use Rattle.builder.proofs.TakenTheorems.{taken-state}
 use Rattle.construct.specs.Construct.{bucketsOf}
 use Rattle.construct.specs.Keys.{hashesOf, attemptHashes}
 use Rattle.construct.specs.Promised.{AttemptFails}
 use Rattle.finish.specs.declared.Finished.{Finished}
 use Rattle.finish.specs.Body.{arenaStart}
-use Rattle.finish.specs.Finish.{walked, keysOf, lengthsRefusal, bodyLength, FinishPost, finishedNumber}
-use Rattle.finish.proofs.LengthLaws.{length-fits}
+use Rattle.finish.specs.Finish.{walked, keysOf, FinishPost, finishedNumber}
 use Rattle.promises.specs.Refused.{cause-ten}
 use Rattle.promises.specs.Taken.{list-taken, taken-kept}
+use Rattle.promises.specs.Finished.{lengths-pass}
 
 -- ---- the list
 
@@ -59,14 +60,6 @@ pair-keys : keysOf pairArena ≡ 2
 unfolding pairArena pairTable tableBytes entryBytes versionsBytes versionBytes bytesOf le spelled walked walkFrom entryRefusal keyRefusal keyRises keyAt orderOf versionsRefusal versionRefusal sequenceFalls
 pair-keys = refl
 
-pair-end : walked pairArena .end ≡ length pairArena
-unfolding pairArena pairTable tableBytes entryBytes versionsBytes versionBytes bytesOf le spelled walked walkFrom entryRefusal keyRefusal keyRises keyAt orderOf versionsRefusal versionRefusal sequenceFalls
-pair-end = refl
-
-pair-length : bodyLength pairArena (keysOf pairArena) ≡ 150
-unfolding arenaStart bucketsOf pairArena pairTable tableBytes entryBytes versionsBytes versionBytes bytesOf
-pair-length = rw pair-keys
-
 pair-entries : entriesFrom pairArena 0 (keysOf pairArena) ≡ pairTable
 unfolding pairArena pairTable tableBytes entryBytes versionsBytes versionBytes bytesOf le spelled keyAt entriesFrom entryAt versionsFrom recordAt
 pair-entries = rw pair-keys
@@ -83,11 +76,6 @@ pair-key-bytes = each-more (bytes-tested oneKey refl) (each-more (bytes-tested o
 pub pair-taken : (buffer : List ℕ) → 90 ≤ length buffer → TakenInto buffer pairTable
 unfolding pairTable tableBytes entryBytes versionsBytes versionBytes bytesOf
 pair-taken buffer room = list-taken pairTable pair-rules pair-key-bytes (omega arith) buffer room
-
--- THEOREM: and the used bytes are its arena
-pub pair-used : {buffer : List ℕ} (T : TakenInto buffer pairTable) → take (T .state .used) (T .after) ≡ pairArena
-unfolding pairArena
-pair-used T = taken-kept (T .taken) .3
 
 -- ---- no attempt places it
 
@@ -118,13 +106,17 @@ pub record PairRoom (o w u : List ℕ) : Type 0 where
   pub wide : 4 ≤ length w
   pub narrow : 24 ≤ length u
 
--- THEOREM: whatever meets finish's contract on it, with room, answers 10
-pub ten-given : {o w u o' w' u' : List ℕ} {r : Finished} → PairRoom o w u → FinishPost pairArena o w u r o' w' u' → finishedNumber r ≡ 10
-ten-given {o} {w} {u} R P = cause-ten P fits pair-fails
-  where
-    fits : lengthsRefusal pairArena (length o) (length w) (length u) ≡ 0
-    fits =
-        let keys = pair-keys in
-        sym
-        (length-fits (length pairArena) (walked pairArena .end) (keysOf pairArena) (length o) (length w) (length u) pair-end
-        (λ z. omega arith) (omega arith) (omega (arith, R .wide)) (omega (arith, R .narrow)) (omega (arith, pair-length, R .out)))
+-- the body of the two is so long
+pair-length : arenaStart (length pairTable) + length pairArena ≡ 150
+unfolding arenaStart bucketsOf pairArena pairTable tableBytes entryBytes versionsBytes versionBytes bytesOf
+pair-length = refl
+
+-- THEOREM: where the list is taken, whatever meets finish's contract on its used bytes, with room, answers 10
+pub ten-given : {s : PointBuilder} {buffer o w u o' w' u' : List ℕ} {r : Finished} → Taken s buffer pairTable → PairRoom o w u
+    → FinishPost (take (s .used) buffer) o w u r o' w' u' → finishedNumber r ≡ 10
+unfolding pairArena pairTable
+ten-given {s} {buffer} {o} {w} {u} t R P =
+    let used : take (s .used) buffer ≡ pairArena = taken-kept t .3 in
+    let full : s .used ≡ length pairArena = ap (λ (x : PointBuilder). x .used) (taken-state t) in
+    let pass = lengths-pass {out = length o} t (omega arith) (R .wide) (R .narrow) (omega (arith, R .out, pair-length)) .1 in
+    cause-ten P pass (λ i l. subst (λ (a : List ℕ). AttemptFails (attemptHashes a (keysOf a) i)) (sym used) (pair-fails i l))
