@@ -13,21 +13,6 @@ use Rattle.filter.proofs.ask.Tie as tie
 returns : tie.Need-returns
 returns c = ask-short (c .before .before .args .bytes .now) (c .before .before .args .hash) (c .if1 .taken)
 
-read-requires : tie.Need-read-requires
-read-requires c κs = search needs
-
-sub-ask-cells : tie.Need-sub-ask-cells
-sub-ask-cells c = search needs
-
-part-ask-cells-start : tie.Need-part-ask-cells-start
-part-ask-cells-start c = search needs
-
-part-ask-cells-end : tie.Need-part-ask-cells-end
-part-ask-cells-end c = search needs
-
-ask-cells-requires : tie.Need-ask-cells-requires
-ask-cells-requires c κs = search needs
-
 returns-2 : tie.Need-returns-2
 unfolding askOf
 returns-2 c =
@@ -40,9 +25,9 @@ ask-spec =
     tie.close
     (tie.spec
     returns
-    read-requires
-    sub-ask-cells
-    part-ask-cells-start
-    part-ask-cells-end
-    ask-cells-requires
+    (λ c κs. search needs)
+    (λ c. search needs)
+    (λ c. search needs)
+    (λ c. search needs)
+    (λ c κs. search needs)
     returns-2)

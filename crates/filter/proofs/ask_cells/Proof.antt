@@ -11,17 +11,8 @@ use Rattle.filter.proofs.ask_cells.Tie as tie
 enum-told : tie.Need-enum-told
 enum-told c = search needs
 
-enum-known-filter : tie.Need-enum-known-filter
-enum-known-filter c = search needs
-
-fits-requires : tie.Need-fits-requires
-fits-requires c κs = search needs
-
 contains-requires : tie.Need-contains-requires
 contains-requires c κs = fitting-accepted (c .before .before .before .filter .given .0 .0) _ (sym (c .before .fits2 .ensures) ∙ c .if1 .taken) .fits
-
-enum-told-2 : tie.Need-enum-told-2
-enum-told-2 c = search needs
 
 returns : tie.Need-returns
 returns c =
@@ -58,10 +49,10 @@ ask-cells-spec =
     tie.close
     (tie.spec
     enum-told
-    enum-known-filter
-    fits-requires
+    (λ c. search needs)
+    (λ c κs. search needs)
     contains-requires
-    enum-told-2
+    (λ c. search needs)
     returns
     returns-2
     returns-3

@@ -8,16 +8,10 @@ use borrow.Author.Needs.{needs}
 use Rattle.filter.proofs.build.Statement.{statement}
 use Rattle.filter.proofs.build.Tie as tie
 
-refusal-requires : tie.Need-refusal-requires
-refusal-requires c κs = search needs
-
 returns : tie.Need-returns
 returns c =
     let a = c .before .before .before .before .before .before .args in
     build-refused (a .hashes .now) (a .wide .now) (a .narrow .now) (a .out .now) (c .before .refusal .result) (c .before .refusal .ensures) (c .if1 .taken)
-
-sort-requires : tie.Need-sort-requires
-sort-requires c κs = search needs
 
 lay-requires : tie.Need-lay-requires
 lay-requires c κs =
@@ -25,24 +19,6 @@ lay-requires c κs =
     let r = roomy (length (a .hashes .now)) (length (a .wide .now)) (length (a .narrow .now)) (length (a .out .now)) (sym (c .before .before .before .before .before .before .before .before .before .refusal .ensures) ∙ c .before .before .before .before .before .before .before .before .if1 .left) in
     let n : length (c .before .before .before .before .before .before .sort .last .0) ≡ length (a .hashes .now) = search needs in
     subst (λ (k : ℕ). Roomy k (length (a .wide .now)) (length (a .narrow .now)) (length (a .out .now))) (sym n) r
-
-clear-u64-requires : tie.Need-clear-u64-requires
-clear-u64-requires c κs = search needs
-
-clear-u32-requires : tie.Need-clear-u32-requires
-clear-u32-requires c κs = search needs
-
-same-length : tie.Need-same-length
-same-length c = search needs
-
-same-length-2 : tie.Need-same-length-2
-same-length-2 c = search needs
-
-same-length-3 : tie.Need-same-length-3
-same-length-3 c = search needs
-
-same-length-4 : tie.Need-same-length-4
-same-length-4 c = search needs
 
 returns-2 : tie.Need-returns-2
 returns-2 c =
@@ -57,14 +33,14 @@ pub build-spec : {M : Type 1} → statement M
 build-spec =
     tie.close
     (tie.spec
-    refusal-requires
+    (λ c κs. search needs)
     returns
-    sort-requires
+    (λ c κs. search needs)
     lay-requires
-    clear-u64-requires
-    clear-u32-requires
-    same-length
-    same-length-2
-    same-length-3
-    same-length-4
+    (λ c κs. search needs)
+    (λ c κs. search needs)
+    (λ c. search needs)
+    (λ c. search needs)
+    (λ c. search needs)
+    (λ c. search needs)
     returns-2)

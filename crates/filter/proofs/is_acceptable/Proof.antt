@@ -9,15 +9,6 @@ use Rattle.filter.proofs.is_acceptable.Tie as tie
 enum-told : tie.Need-enum-told
 enum-told c = search needs
 
-enum-known-filter : tie.Need-enum-known-filter
-enum-known-filter c = search needs
-
-fits-requires : tie.Need-fits-requires
-fits-requires c κs = search needs
-
-enum-told-2 : tie.Need-enum-told-2
-enum-told-2 c = search needs
-
 returns : tie.Need-returns
 returns c = acceptable-positive (c .before .before .args .filter) (c .before .before .args .cells) (c .enum-told .given .1)
 
@@ -33,4 +24,4 @@ returns-3 c = acceptable-refused (c .before .before .args .filter) (c .before .b
 pub is-acceptable-spec : {M : Type 1} → statement M
 is-acceptable-spec =
     tie.close
-    (tie.spec enum-told enum-known-filter fits-requires enum-told-2 returns returns-2 returns-3)
+    (tie.spec enum-told (λ c. search needs) (λ c κs. search needs) (λ c. search needs) returns returns-2 returns-3)

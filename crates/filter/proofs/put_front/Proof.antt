@@ -13,12 +13,6 @@ use Rattle.filter.proofs.put_front.Tie as tie
 enum-told : tie.Need-enum-told
 enum-told c = search needs
 
-put-positive-requires : tie.Need-put-positive-requires
-put-positive-requires c κs = search needs
-
-enum-known-filter : tie.Need-enum-known-filter
-enum-known-filter c = search needs
-
 put-header-requires : tie.Need-put-header-requires
 put-header-requires c κs =
     let s = c .before .before .before .before .before in
@@ -27,19 +21,10 @@ put-header-requires c κs =
       fitting-accepted (f .0 .0) (s .args .cells) (acceptable-fuse (s .args .filter) (s .args .cells) (f .0 .0) (f .1) ∙ s .pre .0) .fits .usable .small,
     )
 
-enum-told-2 : tie.Need-enum-told-2
-enum-told-2 c = search needs
-
-same-length : tie.Need-same-length
-same-length c = search needs
-
 returns : tie.Need-returns
 returns c =
     let a = c .before .before .before .before .before .before .before .args in
     c .before .before .put-positive .ensures ∙ ap (splice (a .out .now) 0) (front-positive (a .filter) (c .before .before .before .before .enum-told .given .1))
-
-same-length-2 : tie.Need-same-length-2
-same-length-2 c = search needs
 
 returns-2 : tie.Need-returns-2
 returns-2 c =
@@ -57,12 +42,12 @@ put-front-spec =
     tie.close
     (tie.spec
     enum-told
-    put-positive-requires
-    enum-known-filter
+    (λ c κs. search needs)
+    (λ c. search needs)
     put-header-requires
-    enum-told-2
-    same-length
+    (λ c. search needs)
+    (λ c. search needs)
     returns
-    same-length-2
+    (λ c. search needs)
     returns-2
     returns-3)

@@ -10,9 +10,6 @@ use borrow.Author.Needs.{needs}
 use Rattle.filter.proofs.read.Statement.{statement}
 use Rattle.filter.proofs.read.Tie as tie
 
-is-positive-requires : tie.Need-is-positive-requires
-is-positive-requires c κs = search needs
-
 returns : tie.Need-returns
 returns c = read-positive (c .before .before .before .args .bytes .now) (sym (c .before .is-positive .ensures) ∙ c .if1 .taken)
 
@@ -20,12 +17,6 @@ returns-2 : tie.Need-returns-2
 returns-2 c =
     let bytes = c .before .before .before .before .args .bytes .now in
     read-other bytes false (sym (c .before .before .is-positive .ensures) ∙ c .before .if1 .left) (short-none bytes (sizesIn bytes) (c .if2 .taken))
-
-sizes-at-requires : tie.Need-sizes-at-requires
-sizes-at-requires c κs = search needs
-
-is-fuse-requires : tie.Need-is-fuse-requires
-is-fuse-requires c κs = search needs
 
 returns-3 : tie.Need-returns-3
 returns-3 c =
@@ -44,10 +35,10 @@ pub read-spec : {M : Type 1} → statement M
 read-spec =
     tie.close
     (tie.spec
-    is-positive-requires
+    (λ c κs. search needs)
     returns
     returns-2
-    sizes-at-requires
-    is-fuse-requires
+    (λ c κs. search needs)
+    (λ c κs. search needs)
     returns-3
     returns-4)

@@ -10,12 +10,6 @@ use borrow.Author.Needs.{needs}
 use Rattle.filter.proofs.write.Statement.{statement}
 use Rattle.filter.proofs.write.Tie as tie
 
-is-acceptable-requires : tie.Need-is-acceptable-requires
-is-acceptable-requires c κs = search needs
-
-add-length : tie.Need-add-length
-add-length c = search needs
-
 returns : tie.Need-returns
 returns c =
     let a = c .before .before .before .before .before .args in
@@ -23,12 +17,6 @@ returns c =
 
 put-front-requires : tie.Need-put-front-requires
 put-front-requires c κs = (sym (c .before .before .before .is-acceptable .ensures) ∙ c .before .before .if1 .taken, omega arith)
-
-copy-at-requires : tie.Need-copy-at-requires
-copy-at-requires c κs = search needs
-
-same-length : tie.Need-same-length
-same-length c = search needs
 
 returns-2 : tie.Need-returns-2
 returns-2 c =
@@ -45,11 +33,11 @@ pub write-spec : {M : Type 1} → statement M
 write-spec =
     tie.close
     (tie.spec
-    is-acceptable-requires
-    add-length
+    (λ c κs. search needs)
+    (λ c. search needs)
     returns
     put-front-requires
-    copy-at-requires
-    same-length
+    (λ c κs. search needs)
+    (λ c. search needs)
     returns-2
     returns-3)

@@ -7,9 +7,6 @@ use Rattle.finish.proofs.build.Tie as tie
 construct-requires : tie.Need-construct-requires
 construct-requires c κs = room-lent _ _ _ _ _ (c .before .before .before .before .before .before .pre)
 
-enum-known-c : tie.Need-enum-known-c
-enum-known-c c = search needs
-
 checked-requires : tie.Need-checked-requires
 checked-requires c κs =
     let k = c .before .before .before .before .before .before .before .before .before .before .construct in
@@ -17,24 +14,6 @@ checked-requires c κs =
 
 enum-told : tie.Need-enum-told
 enum-told c = search needs
-
-same-length : tie.Need-same-length
-same-length c = search needs
-
-same-length-2 : tie.Need-same-length-2
-same-length-2 c = search needs
-
-same-length-3 : tie.Need-same-length-3
-same-length-3 c = search needs
-
-returns : tie.Need-returns
-returns c = search needs
-
-same-length-4 : tie.Need-same-length-4
-same-length-4 c = search needs
-
-same-length-5 : tie.Need-same-length-5
-same-length-5 c = search needs
 
 returns-2 : tie.Need-returns-2
 returns-2 c =
@@ -46,13 +25,13 @@ build-spec =
     tie.close
     (tie.spec
     construct-requires
-    enum-known-c
+    (λ c. search needs)
     checked-requires
     enum-told
-    same-length
-    same-length-2
-    same-length-3
-    returns
-    same-length-4
-    same-length-5
+    (λ c. search needs)
+    (λ c. search needs)
+    (λ c. search needs)
+    (λ c. search needs)
+    (λ c. search needs)
+    (λ c. search needs)
     returns-2)

@@ -12,9 +12,6 @@ use borrow.Author.Needs.{needs}
 use Rattle.finish.proofs.checked.Statement.{statement}
 use Rattle.finish.proofs.checked.Tie as tie
 
-buckets-requires : tie.Need-buckets-requires
-buckets-requires c κs = search needs
-
 add-pilots : tie.Need-add-pilots
 add-pilots c =
     let e = c .buckets .ensures in
@@ -42,9 +39,6 @@ add-end c =
     let words = R .words in
     omega arith
 
-slice-reshare-prefix-mismatch : tie.Need-slice-reshare-prefix-mismatch
-slice-reshare-prefix-mismatch c = search needs
-
 slice-aggregate-mismatch : tie.Need-slice-aggregate-mismatch
 slice-aggregate-mismatch c =
     let long = c .before .before .before .before .before .before .pre .0 .long in
@@ -58,12 +52,6 @@ mul-mismatch c =
     let most = R .most in
     let words = R .words in
     omega arith
-
-sub-mismatch : tie.Need-sub-mismatch
-sub-mismatch c = search needs
-
-part-mismatch-start : tie.Need-part-mismatch-start
-part-mismatch-start c = search needs
 
 part-mismatch-end : tie.Need-part-mismatch-end
 part-mismatch-end c =
@@ -82,12 +70,6 @@ mul-mismatch-2 c =
     let most = R .most in
     let words = R .words in
     omega arith
-
-sub-mismatch-2 : tie.Need-sub-mismatch-2
-sub-mismatch-2 c = search needs
-
-part-mismatch-start-2 : tie.Need-part-mismatch-start-2
-part-mismatch-start-2 c = search needs
 
 part-mismatch-end-2 : tie.Need-part-mismatch-end-2
 part-mismatch-end-2 c =
@@ -113,16 +95,10 @@ mismatch-requires c κs =
     let k = length-take-le (a .n) (now (a .h)) (omega arith) in
     (omega arith, omega arith)
 
-same-length : tie.Need-same-length
-same-length c = search needs
-
 returns : tie.Need-returns
 returns c =
     let e = c .before .before .before .before .before .buckets .ensures in
     built-eleven _ _ _ (chosen-refusal _ _ _ _ _ (c .before .before .before .before .before .before .before .before .before .before .pre .1) _ _ true (pilots-part _ _ _ e _ _ refl refl) (slots-part _ _ _ e _ _ refl refl) (sym (c .before .mismatch .ensures) ∙ c .if1 .taken))
-
-seed-requires : tie.Need-seed-requires
-seed-requires c κs = search needs
 
 write-body-requires : tie.Need-write-body-requires
 write-body-requires c κs =
@@ -130,20 +106,11 @@ write-body-requires c κs =
     let e = c .before .before .before .before .before .before .before .before .buckets .ensures in
     (pre .0, chosen-written _ _ _ _ _ (pre .1) _ _ _ (c .seed .ensures) (slots-part _ _ _ e _ _ refl refl) (room-slots _ _ _ _ _ (pre .0)) (sym (c .before .before .before .before .mismatch .ensures) ∙ c .before .before .before .if1 .left))
 
-arena-start-requires : tie.Need-arena-start-requires
-arena-start-requires c κs = search needs
-
 add-t19 : tie.Need-add-t19
 add-t19 c =
     let room = c .before .before .before .before .before .before .before .before .before .before .before .before .before .before .before .before .before .before .before .pre .0 .room in
     let e = c .arena-start .ensures in
     omega arith
-
-same-length-2 : tie.Need-same-length-2
-same-length-2 c = search needs
-
-same-length-3 : tie.Need-same-length-3
-same-length-3 c = search needs
 
 returns-2 : tie.Need-returns-2
 returns-2 c =
@@ -155,27 +122,27 @@ pub checked-spec : {M : Type 1} → statement M
 checked-spec =
     tie.close
     (tie.spec
-    buckets-requires
+    (λ c κs. search needs)
     add-pilots
     add-slots
     add-end
-    slice-reshare-prefix-mismatch
+    (λ c. search needs)
     slice-aggregate-mismatch
     mul-mismatch
-    sub-mismatch
-    part-mismatch-start
+    (λ c. search needs)
+    (λ c. search needs)
     part-mismatch-end
     mul-mismatch-2
-    sub-mismatch-2
-    part-mismatch-start-2
+    (λ c. search needs)
+    (λ c. search needs)
     part-mismatch-end-2
     mismatch-requires
-    same-length
+    (λ c. search needs)
     returns
-    seed-requires
+    (λ c κs. search needs)
     write-body-requires
-    arena-start-requires
+    (λ c κs. search needs)
     add-t19
-    same-length-2
-    same-length-3
+    (λ c. search needs)
+    (λ c. search needs)
     returns-2)

@@ -10,12 +10,6 @@ use borrow.Author.Needs.{needs}
 use Rattle.finish.proofs.finish.Statement.{statement}
 use Rattle.finish.proofs.finish.Tie as tie
 
-walk-requires : tie.Need-walk-requires
-walk-requires c κs = search needs
-
-length-refusal-requires : tie.Need-length-refusal-requires
-length-refusal-requires c κs = search needs
-
 returns : tie.Need-returns
 returns c = post-early _ _ _ _ _ (c .before .before .walk .ensures) _ (c .before .length-refusal .ensures) (c .if1 .taken)
 
@@ -49,21 +43,6 @@ build-requires c κs =
     let passed = sym (c .before .before .before .before .length-refusal .ensures) ∙ z in
     post-room (now (a .arena)) (now (a .out)) (now (a .wide)) (now (a .narrow)) _ (c .before .before .before .before .before .walk .ensures) passed
 
-clear-u64-requires : tie.Need-clear-u64-requires
-clear-u64-requires c κs = search needs
-
-clear-u32-requires : tie.Need-clear-u32-requires
-clear-u32-requires c κs = search needs
-
-same-length : tie.Need-same-length
-same-length c = search needs
-
-same-length-2 : tie.Need-same-length-2
-same-length-2 c = search needs
-
-same-length-3 : tie.Need-same-length-3
-same-length-3 c = search needs
-
 returns-2 : tie.Need-returns-2
 returns-2 c =
     let a = c .before .before .before .before .before .before .before .before .before .before .before .before .before .before .before .before .before .before .before .before .before .before .before .before .before .args in
@@ -78,16 +57,16 @@ pub finish-spec : {M : Type 1} → statement M
 finish-spec =
     tie.close
     (tie.spec
-    walk-requires
-    length-refusal-requires
+    (λ c κs. search needs)
+    (λ c κs. search needs)
     returns
     add-words
     slice-relend-prefix-build
     slice-aggregate-build
     build-requires
-    clear-u64-requires
-    clear-u32-requires
-    same-length
-    same-length-2
-    same-length-3
+    (λ c κs. search needs)
+    (λ c κs. search needs)
+    (λ c. search needs)
+    (λ c. search needs)
+    (λ c. search needs)
     returns-2)

@@ -14,26 +14,14 @@ returns-2 c = length-empty _ _ _ _ _ _ (omega arith) (omega arith)
 returns-3 : tie.Need-returns-3
 returns-3 c = length-many _ _ _ _ _ _ (omega arith) (λ z. omega arith) (omega arith)
 
-mul-if4 : tie.Need-mul-if4
-mul-if4 c = search needs
-
 returns-4 : tie.Need-returns-4
 returns-4 c = length-wide _ _ _ _ _ _ (omega arith) (λ z. omega arith) (omega arith) (omega arith)
-
-mul-if5 : tie.Need-mul-if5
-mul-if5 c = search needs
-
-add-if5 : tie.Need-add-if5
-add-if5 c = search needs
 
 returns-5 : tie.Need-returns-5
 returns-5 c = length-narrow _ _ _ _ _ _ (omega arith) (λ z. omega arith) (omega arith) (omega arith) (omega arith)
 
 returns-6 : tie.Need-returns-6
 returns-6 c = length-out _ _ _ _ _ _ (omega arith) (λ z. omega arith) (omega arith) (omega arith) (omega arith) (omega arith)
-
-arena-start-requires : tie.Need-arena-start-requires
-arena-start-requires c κs = search needs
 
 returns-7 : tie.Need-returns-7
 returns-7 c = length-out _ _ _ _ _ _ (omega arith) (λ z. omega arith) (omega arith) (omega arith) (omega arith) (omega arith)
@@ -48,12 +36,12 @@ length-refusal-spec =
     returns
     returns-2
     returns-3
-    mul-if4
+    (λ c. search needs)
     returns-4
-    mul-if5
-    add-if5
+    (λ c. search needs)
+    (λ c. search needs)
     returns-5
     returns-6
-    arena-start-requires
+    (λ c κs. search needs)
     returns-7
     returns-8)

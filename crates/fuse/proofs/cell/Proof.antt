@@ -10,12 +10,6 @@ use Rattle.fuse.proofs.PositionLaws.{room, cell-first, cell-other}
 use Rattle.fuse.proofs.cell.Statement.{statement}
 use Rattle.fuse.proofs.cell.Tie as tie
 
-mul-mul-high : tie.Need-mul-mul-high
-mul-mul-high c = search needs
-
-mul-high-requires : tie.Need-mul-high-requires
-mul-high-requires c κs = search needs
-
 -- the first position
 first : (c : tie.After-mul-high) → c .mul-high .result ≡ firstCell (c .before .args .segment) (c .before .args .count) (c .before .args .h)
 unfolding firstCell
@@ -32,15 +26,6 @@ returns : tie.Need-returns
 returns c =
     let a = c .before .before .args in
     first (c .before) ∙ cell-first (a .segment) (a .count) (a .h) (a .i) (c .if1 .taken)
-
-sub-word : tie.Need-sub-word
-sub-word c = search needs
-
-mul-word : tie.Need-mul-word
-mul-word c = search needs
-
-shr-word : tie.Need-shr-word
-shr-word c = search needs
 
 mul-result : tie.Need-mul-result
 mul-result c = record { fits = let h = fits (c .before) in omega arith }
@@ -61,12 +46,12 @@ pub cell-spec : {M : Type 1} → statement M
 cell-spec =
     tie.close
     (tie.spec
-    mul-mul-high
-    mul-high-requires
+    (λ c. search needs)
+    (λ c κs. search needs)
     returns
-    sub-word
-    mul-word
-    shr-word
+    (λ c. search needs)
+    (λ c. search needs)
+    (λ c. search needs)
     mul-result
     add-result
     sub-result

@@ -9,22 +9,10 @@ use Rattle.fuse.specs.Asking.{xorAt, containsOf}
 use Rattle.fuse.proofs.contains.Statement.{statement}
 use Rattle.fuse.proofs.contains.Tie as tie
 
-graph-hash-requires : tie.Need-graph-hash-requires
-graph-hash-requires c κs = search needs
-
-cast-xor-cells : tie.Need-cast-xor-cells
-cast-xor-cells c = search needs
-
-cast-xor-cells-2 : tie.Need-cast-xor-cells-2
-cast-xor-cells-2 c = search needs
-
 xor-cells-requires : tie.Need-xor-cells-requires
 xor-cells-requires c κs =
     let s = c .before .before .before .before in
     (s .pre .usable, s .pre .whole)
-
-cast-result : tie.Need-cast-result
-cast-result c = search needs
 
 returns : tie.Need-returns
 unfolding containsOf
@@ -38,9 +26,9 @@ pub contains-spec : {M : Type 1} → statement M
 contains-spec =
     tie.close
     (tie.spec
-    graph-hash-requires
-    cast-xor-cells
-    cast-xor-cells-2
+    (λ c κs. search needs)
+    (λ c. search needs)
+    (λ c. search needs)
     xor-cells-requires
-    cast-result
+    (λ c. search needs)
     returns)

@@ -7,15 +7,9 @@ use Rattle.fuse.specs.Asking.{graphHash}
 use Rattle.fuse.proofs.graph_hash.Statement.{statement}
 use Rattle.fuse.proofs.graph_hash.Tie as tie
 
-wrapping-add-u64-requires : tie.Need-wrapping-add-u64-requires
-wrapping-add-u64-requires c κs = search needs
-
-mix-requires : tie.Need-mix-requires
-mix-requires c κs = search needs
-
 returns : tie.Need-returns
 unfolding graphHash
 returns c = c .mix .ensures ∙ ap mixOf (c .before .wrapping-add-u64 .ensures)
 
 pub graph-hash-spec : {M : Type 1} → statement M
-graph-hash-spec = tie.close (tie.spec wrapping-add-u64-requires mix-requires returns)
+graph-hash-spec = tie.close (tie.spec (λ c κs. search needs) (λ c κs. search needs) returns)

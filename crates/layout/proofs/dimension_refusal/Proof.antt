@@ -11,15 +11,9 @@ returns : tie.Need-returns
 unfolding dimensionRefusal
 returns c = simp (eq-eqb _ _ (c .if1 .taken))
 
-cast-if2 : tie.Need-cast-if2
-cast-if2 c = search needs
-
 returns-2 : tie.Need-returns-2
 unfolding dimensionRefusal
 returns-2 c = simp (ne-eqb _ _ (c .before .if1 .left), le-leb _ _ (c .if2 .taken))
-
-buckets-requires : tie.Need-buckets-requires
-buckets-requires c κs = search needs
 
 returns-3 : tie.Need-returns-3
 unfolding dimensionRefusal
@@ -51,9 +45,9 @@ dimension-refusal-spec =
     tie.close
     (tie.spec
     returns
-    cast-if2
+    (λ c. search needs)
     returns-2
-    buckets-requires
+    (λ c κs. search needs)
     returns-3
     slot-at-requires
     returns-4

@@ -6,29 +6,17 @@ use borrow.Author.Needs.{needs}
 use Rattle.layout.proofs.header_refusal.Statement.{statement}
 use Rattle.layout.proofs.header_refusal.Tie as tie
 
-magic-refusal-requires : tie.Need-magic-refusal-requires
-magic-refusal-requires c κs = search needs
-
 returns : tie.Need-returns
 returns c = sym (header-stop _ _ (c .before .magic-refusal .ensures) (c .if1 .taken))
 
 keys-in-requires : tie.Need-keys-in-requires
 keys-in-requires c κs = let h = magic-long _ (sym (c .before .magic-refusal .ensures) ∙ c .if1 .left) in omega arith
 
-cast-dimension-refusal : tie.Need-cast-dimension-refusal
-cast-dimension-refusal c = search needs
-
 buckets-in-requires : tie.Need-buckets-in-requires
 buckets-in-requires c κs = let h = magic-long _ (sym (c .before .before .magic-refusal .ensures) ∙ c .before .if1 .left) in omega arith
 
-cast-dimension-refusal-2 : tie.Need-cast-dimension-refusal-2
-cast-dimension-refusal-2 c = search needs
-
 arena-in-requires : tie.Need-arena-in-requires
 arena-in-requires c κs = let h = magic-long _ (sym (c .before .before .before .magic-refusal .ensures) ∙ c .before .before .if1 .left) in omega arith
-
-dimension-refusal-requires : tie.Need-dimension-refusal-requires
-dimension-refusal-requires c κs = search needs
 
 returns-2 : tie.Need-returns-2
 returns-2 c = sym (header-on _ _ _ _ _ _ (c .before .before .before .before .before .magic-refusal .ensures) (c .before .before .before .before .if1 .left) (c .before .before .before .keys-in .ensures) (c .before .before .buckets-in .ensures) (c .before .arena-in .ensures) (c .dimension-refusal .ensures))
@@ -37,12 +25,12 @@ pub header-refusal-spec : {M : Type 1} → statement M
 header-refusal-spec =
     tie.close
     (tie.spec
-    magic-refusal-requires
+    (λ c κs. search needs)
     returns
     keys-in-requires
-    cast-dimension-refusal
+    (λ c. search needs)
     buckets-in-requires
-    cast-dimension-refusal-2
+    (λ c. search needs)
     arena-in-requires
-    dimension-refusal-requires
+    (λ c κs. search needs)
     returns-2)

@@ -13,12 +13,6 @@ returns c = sym (magic-short _ (c .if1 .taken))
 slice-aggregate-same : tie.Need-slice-aggregate-same
 slice-aggregate-same c = sym (length-take-le 8 (c .before .before .before .args .body .now) (omega arith))
 
-slice-aggregate-same-2 : tie.Need-slice-aggregate-same-2
-slice-aggregate-same-2 c = search needs
-
-same-requires : tie.Need-same-requires
-same-requires c κs = search needs
-
 returns-2 : tie.Need-returns-2
 returns-2 c = sym (magic-is _ _ (omega arith) (sym (c .before .same .ensures) ∙ c .if2 .taken))
 
@@ -31,7 +25,7 @@ magic-refusal-spec =
     (tie.spec
     returns
     slice-aggregate-same
-    slice-aggregate-same-2
-    same-requires
+    (λ c. search needs)
+    (λ c κs. search needs)
     returns-2
     returns-3)

@@ -3,9 +3,6 @@ use borrow.Author.Needs.{needs}
 use Rattle.lines.proofs.count_shown.Statement.{statement}
 use Rattle.lines.proofs.count_shown.Tie as tie
 
-slice-aggregate-put-lines : tie.Need-slice-aggregate-put-lines
-slice-aggregate-put-lines c = search needs
-
 put-lines-requires : tie.Need-put-lines-requires
 put-lines-requires c κs = c .before .before .pre
 
@@ -16,6 +13,6 @@ pub count-shown-spec : {M : Type 1} → statement M
 count-shown-spec =
     tie.close
     (tie.spec
-    slice-aggregate-put-lines
+    (λ c. search needs)
     put-lines-requires
     returns)

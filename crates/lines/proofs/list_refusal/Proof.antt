@@ -5,9 +5,6 @@ use borrow.Author.Needs.{needs}
 use Rattle.lines.proofs.list_refusal.Statement.{statement}
 use Rattle.lines.proofs.list_refusal.Tie as tie
 
-slice-aggregate-put-refused : tie.Need-slice-aggregate-put-refused
-slice-aggregate-put-refused c = search needs
-
 put-refused-requires : tie.Need-put-refused-requires
 put-refused-requires c κs = refused-ends _ (omega arith)
 
@@ -27,7 +24,7 @@ pub list-refusal-spec : {M : Type 1} → statement M
 list-refusal-spec =
     tie.close
     (tie.spec
-    slice-aggregate-put-refused
+    (λ c. search needs)
     put-refused-requires
     returns
     put-refused-requires-2

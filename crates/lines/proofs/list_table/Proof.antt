@@ -7,9 +7,6 @@ use Rattle.lines.proofs.list_table.Tie as tie
 count-shown-requires : tie.Need-count-shown-requires
 count-shown-requires c κs = (c .before .before .pre .0, ends-lines _ _ (c .before .before .pre .1))
 
-slice-aggregate-put-table : tie.Need-slice-aggregate-put-table
-slice-aggregate-put-table c = search needs
-
 put-table-requires : tie.Need-put-table-requires
 put-table-requires c κs = (c .before .before .before .before .pre .0, c .before .count-shown .ensures, c .before .before .before .before .pre .1)
 
@@ -30,7 +27,7 @@ list-table-spec =
     tie.close
     (tie.spec
     count-shown-requires
-    slice-aggregate-put-table
+    (λ c. search needs)
     put-table-requires
     returns
     put-table-requires-2

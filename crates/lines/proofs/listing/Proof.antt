@@ -6,12 +6,6 @@ use borrow.Author.Needs.{needs}
 use Rattle.lines.proofs.listing.Statement.{statement}
 use Rattle.lines.proofs.listing.Tie as tie
 
-refusal-of-requires : tie.Need-refusal-of-requires
-refusal-of-requires c κs = search needs
-
-list-refusal-requires : tie.Need-list-refusal-requires
-list-refusal-requires c κs = search needs
-
 same-length : tie.Need-same-length
 same-length c = c .before .before .list-refusal .kept .0
 
@@ -23,9 +17,6 @@ sub-list-table c = omega (arith, taken _ (sym (c .before .before .refusal-of .en
 
 part-list-table-start : tie.Need-part-list-table-start
 part-list-table-start c = let t = taken _ (sym (c .before .before .refusal-of .ensures) ∙ c .before .if1 .left) .long in search needs
-
-part-list-table-end : tie.Need-part-list-table-end
-part-list-table-end c = search needs
 
 u64-at-requires : tie.Need-u64-at-requires
 u64-at-requires c κs = omega (arith, taken _ (sym (c .before .before .before .refusal-of .ensures) ∙ c .before .before .if1 .left) .long)
@@ -43,13 +34,13 @@ pub listing-spec : {M : Type 1} → statement M
 listing-spec =
     tie.close
     (tie.spec
-    refusal-of-requires
-    list-refusal-requires
+    (λ c κs. search needs)
+    (λ c κs. search needs)
     same-length
     returns
     sub-list-table
     part-list-table-start
-    part-list-table-end
+    (λ c. search needs)
     u64-at-requires
     list-table-requires
     same-length-2

@@ -12,9 +12,6 @@ use Rattle.lines.proofs.put_entry.Tie as tie
 shown-at-requires : tie.Need-shown-at-requires
 shown-at-requires c κs = c .before .before .pre .0
 
-enum-known-found : tie.Need-enum-known-found
-enum-known-found c = search needs
-
 key-at-requires : tie.Need-key-at-requires
 key-at-requires c κs = c .before .before .before .before .before .before .before .pre .0 .whole
 
@@ -28,9 +25,6 @@ put-line-requires c κs =
 
 enum-told : tie.Need-enum-told
 enum-told c = search needs
-
-enum-told-2 : tie.Need-enum-told-2
-enum-told-2 c = search needs
 
 same-length : tie.Need-same-length
 same-length c = c .before .before .put-line .kept .0
@@ -59,11 +53,11 @@ put-entry-spec =
     tie.close
     (tie.spec
     shown-at-requires
-    enum-known-found
+    (λ c. search needs)
     key-at-requires
     put-line-requires
     enum-told
-    enum-told-2
+    (λ c. search needs)
     same-length
     returns
     returns-2

@@ -5,22 +5,13 @@ use borrow.Author.Needs.{needs}
 use Rattle.lines.proofs.put_header.Statement.{statement}
 use Rattle.lines.proofs.put_header.Tie as tie
 
-slice-aggregate-put-named : tie.Need-slice-aggregate-put-named
-slice-aggregate-put-named c = search needs
-
 put-named-requires : tie.Need-put-named-requires
 unfolding headerOf
 put-named-requires c κs = ends-first _ (c .before .before .before .pre)
 
-slice-aggregate-put-named-2 : tie.Need-slice-aggregate-put-named-2
-slice-aggregate-put-named-2 c = search needs
-
 put-named-requires-2 : tie.Need-put-named-requires-2
 unfolding headerOf
 put-named-requires-2 c κs = ends-first _ (ends-second (c .before .before .before .before .put-named .ensures) (c .before .before .before .before .before .before .before .before .pre))
-
-slice-aggregate-put-named-3 : tie.Need-slice-aggregate-put-named-3
-slice-aggregate-put-named-3 c = search needs
 
 put-named-requires-3 : tie.Need-put-named-requires-3
 unfolding headerOf
@@ -30,9 +21,6 @@ put-byte-requires : tie.Need-put-byte-requires
 unfolding headerOf
 put-byte-requires c κs = ends-second (c .before .before .before .put-named3 .ensures) (ends-second (c .before .before .before .before .before .before .before .before .put-named2 .ensures) (ends-second (c .before .before .before .before .before .before .before .before .before .before .before .before .before .put-named .ensures) (c .before .before .before .before .before .before .before .before .before .before .before .before .before .before .before .before .before .pre)))
 
-same-length : tie.Need-same-length
-same-length c = search needs
-
 returns : tie.Need-returns
 unfolding headerOf
 returns c = written-then (c .before .before .before .before .before .before .before .before .before .before .before .before .before .before .before .before .put-named .ensures) (written-then (c .before .before .before .before .before .before .before .before .before .before .before .put-named2 .ensures) (written-then (c .before .before .before .before .before .before .put-named3 .ensures) (c .before .before .put-byte .ensures)))
@@ -41,12 +29,12 @@ pub put-header-spec : {M : Type 1} → statement M
 put-header-spec =
     tie.close
     (tie.spec
-    slice-aggregate-put-named
+    (λ c. search needs)
     put-named-requires
-    slice-aggregate-put-named-2
+    (λ c. search needs)
     put-named-requires-2
-    slice-aggregate-put-named-3
+    (λ c. search needs)
     put-named-requires-3
     put-byte-requires
-    same-length
+    (λ c. search needs)
     returns)

@@ -13,9 +13,6 @@ put-record-requires : tie.Need-put-record-requires
 unfolding lineOf
 put-record-requires c κs = ends-second (c .before .before .before .put-key .ensures) (c .before .before .before .before .before .before .before .pre)
 
-same-length : tie.Need-same-length
-same-length c = search needs
-
 returns : tie.Need-returns
 unfolding lineOf
 returns c = written-then (c .before .before .before .before .before .before .put-key .ensures) (c .before .before .put-record .ensures)
@@ -26,5 +23,5 @@ put-line-spec =
     (tie.spec
     put-key-requires
     put-record-requires
-    same-length
+    (λ c. search needs)
     returns)

@@ -18,9 +18,6 @@ put-field-requires-2 : tie.Need-put-field-requires-2
 unfolding recordText
 put-field-requires-2 c κs = ends-first _ (ends-second (c .before .before .before .put-kind .ensures) (ends-second (c .before .before .before .before .before .before .before .put-field .ensures) (c .before .before .before .before .before .before .before .before .before .before .pre)))
 
-cast-put-field : tie.Need-cast-put-field
-cast-put-field c = search needs
-
 put-field-requires-3 : tie.Need-put-field-requires-3
 unfolding recordText
 put-field-requires-3 c κs = ends-first _ (ends-second (c .before .before .before .before .put-field2 .ensures) (ends-second (c .before .before .before .before .before .before .before .before .put-kind .ensures) (ends-second (c .before .before .before .before .before .before .before .before .before .before .before .before .put-field .ensures) (c .before .before .before .before .before .before .before .before .before .before .before .before .before .before .before .pre))))
@@ -43,7 +40,7 @@ put-record-spec =
     put-field-requires
     put-kind-requires
     put-field-requires-2
-    cast-put-field
+    (λ c. search needs)
     put-field-requires-3
     put-byte-requires
     same-length

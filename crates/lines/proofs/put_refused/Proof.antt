@@ -5,9 +5,6 @@ use borrow.Author.Needs.{needs}
 use Rattle.lines.proofs.put_refused.Statement.{statement}
 use Rattle.lines.proofs.put_refused.Tie as tie
 
-slice-aggregate-put-named : tie.Need-slice-aggregate-put-named
-slice-aggregate-put-named c = search needs
-
 put-named-requires : tie.Need-put-named-requires
 unfolding refusedText
 put-named-requires c κs = ends-first _ (c .before .before .before .pre)
@@ -16,9 +13,6 @@ put-byte-requires : tie.Need-put-byte-requires
 unfolding refusedText
 put-byte-requires c κs = ends-second (c .before .before .before .put-named .ensures) (c .before .before .before .before .before .before .before .pre)
 
-same-length : tie.Need-same-length
-same-length c = search needs
-
 returns : tie.Need-returns
 unfolding refusedText
 returns c = written-then (c .before .before .before .before .before .before .put-named .ensures) (c .before .before .put-byte .ensures)
@@ -26,4 +20,4 @@ returns c = written-then (c .before .before .before .before .before .before .put
 pub put-refused-spec : {M : Type 1} → statement M
 put-refused-spec =
     tie.close
-    (tie.spec slice-aggregate-put-named put-named-requires put-byte-requires same-length returns)
+    (tie.spec (λ c. search needs) put-named-requires put-byte-requires (λ c. search needs) returns)

@@ -10,9 +10,6 @@ use Rattle.lines.proofs.put_table.Tie as tie
 keys-in-requires : tie.Need-keys-in-requires
 keys-in-requires c κs = omega (arith, c .before .before .pre .0 .long)
 
-cast-keys : tie.Need-cast-keys
-cast-keys c = search needs
-
 put-header-requires : tie.Need-put-header-requires
 put-header-requires c κs = ends-first _ (rw (table-text _ _ _ _ (c .before .keys-in .ensures) (c .before .before .before .before .pre .1)) at (c .before .before .before .before .pre .2))
 
@@ -30,7 +27,7 @@ put-table-spec =
     tie.close
     (tie.spec
     keys-in-requires
-    cast-keys
+    (λ c. search needs)
     put-header-requires
     put-lines-requires
     same-length

@@ -13,26 +13,11 @@ returns c = size-short _ (c .if1 .taken)
 returns-2 : tie.Need-returns-2
 returns-2 c = size-long _ (c .before .if1 .left) (c .if2 .taken)
 
-sub-validate : tie.Need-sub-validate
-sub-validate c = search needs
-
-part-validate-start : tie.Need-part-validate-start
-part-validate-start c = search needs
-
-part-validate-end : tie.Need-part-validate-end
-part-validate-end c = search needs
-
 u64-at-requires : tie.Need-u64-at-requires
 u64-at-requires c κs = omega (arith, c .before .before .if1 .left)
 
-validate-requires : tie.Need-validate-requires
-validate-requires c κs = search needs
-
 enum-told : tie.Need-enum-told
 enum-told c = search needs
-
-enum-known-v : tie.Need-enum-known-v
-enum-known-v c = search needs
 
 returns-3 : tie.Need-returns-3
 returns-3 c = sym (ap refusalNumber (c .enum-told .given .1)) ∙ size-passed _ (c .before .before .before .before .before .before .if1 .left) (c .before .before .before .before .before .if2 .left) _ _ (c .before .before .before .u64-at .ensures) (c .before .before .validate .ensures)
@@ -46,12 +31,12 @@ refusal-of-spec =
     (tie.spec
     returns
     returns-2
-    sub-validate
-    part-validate-start
-    part-validate-end
+    (λ c. search needs)
+    (λ c. search needs)
+    (λ c. search needs)
     u64-at-requires
-    validate-requires
+    (λ c κs. search needs)
     enum-told
-    enum-known-v
+    (λ c. search needs)
     returns-3
     returns-4)

@@ -13,9 +13,6 @@ add-first c = omega (arith, c .before .pre .whole)
 u32-at-requires : tie.Need-u32-at-requires
 u32-at-requires c κs = omega (arith, c .before .pre .whole)
 
-cast-first : tie.Need-cast-first
-cast-first c = search needs
-
 add-first-2 : tie.Need-add-first-2
 add-first-2 c = omega (arith, c .u32-at .ensures, c .before .before .pre .whole)
 
@@ -27,9 +24,6 @@ u32-at-requires-2 c κs = omega (arith, c .before .before .pre .whole)
 
 first-within-requires : tie.Need-first-within-requires
 first-within-requires c κs = omega (arith, c .before .u32-at .ensures, c .before .before .before .pre .whole)
-
-tombstone-found-requires : tie.Need-tombstone-found-requires
-tombstone-found-requires c κs = search needs
 
 returns : tie.Need-returns
 returns c = shown-left _ _ _ _ _ (λ i. c .before .before .before .before .before .shared-slice-known .given i .fits) (c .before .before .before .before .before .before .pre) (ap (λ (n : ℕ). c .before .before .before .before .before .before .args .p + 8 + n) (c .before .before .before .before .u32-at .ensures)) (c .before .before .before .u32-at2 .ensures) _ (c .before .before .first-within .ensures) (sym (c .before .tombstone-found .ensures) ∙ c .if1 .taken)
@@ -46,12 +40,12 @@ shown-at-spec =
     (tie.spec
     add-first
     u32-at-requires
-    cast-first
+    (λ c. search needs)
     add-first-2
     add-u32-at
     u32-at-requires-2
     first-within-requires
-    tombstone-found-requires
+    (λ c κs. search needs)
     returns
     first-within-requires-2
     returns-2)

@@ -13,23 +13,11 @@ use Rattle.peel.proofs.AttemptLaws.{peeled-fits, tried-no, tried-yes}
 use Rattle.peel.proofs.attempt.Statement.{statement}
 use Rattle.peel.proofs.attempt.Tie as tie
 
-peel-hashes-requires : tie.Need-peel-hashes-requires
-peel-hashes-requires c κs = search needs
-
-same-length : tie.Need-same-length
-same-length c = search needs
-
-same-length-2 : tie.Need-same-length-2
-same-length-2 c = search needs
-
 returns : tie.Need-returns
 returns c =
     let s = c .before .before .before .before .before .before .before .before .before .before .before .before in
     let a = s .args in
     tried-no (a .g) (s .pre .0) (a .hashes .now) (a .cells .now) _ _ _ _ (c .before .before .before .before .before .peel-hashes .ensures .1) (c .if1 .taken)
-
-fill-requires : tie.Need-fill-requires
-fill-requires c κs = search needs
 
 fill-requires-2 : tie.Need-fill-requires-2
 fill-requires-2 c κs =
@@ -41,15 +29,6 @@ fill-requires-2 c κs =
       (s .pre .0, search needs, omega (arith, R .wide-room), omega (arith, R .narrow-room)),
       peeled-below _ _ _ _ _ _ _ _ R,
     )
-
-same-length-3 : tie.Need-same-length-3
-same-length-3 c = search needs
-
-same-length-4 : tie.Need-same-length-4
-same-length-4 c = search needs
-
-same-length-5 : tie.Need-same-length-5
-same-length-5 c = search needs
 
 returns-2 : tie.Need-returns-2
 returns-2 c =
@@ -65,13 +44,13 @@ pub attempt-spec : {M : Type 1} → statement M
 attempt-spec =
     tie.close
     (tie.spec
-    peel-hashes-requires
-    same-length
-    same-length-2
+    (λ c κs. search needs)
+    (λ c. search needs)
+    (λ c. search needs)
     returns
-    fill-requires
+    (λ c κs. search needs)
     fill-requires-2
-    same-length-3
-    same-length-4
-    same-length-5
+    (λ c. search needs)
+    (λ c. search needs)
+    (λ c. search needs)
     returns-2)

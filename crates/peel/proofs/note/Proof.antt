@@ -5,15 +5,6 @@ use Rattle.peel.proofs.TableLaws.{queued-push, queued-pass}
 use Rattle.peel.proofs.note.Statement.{statement}
 use Rattle.peel.proofs.note.Tie as tie
 
-mul-if1 : tie.Need-mul-if1
-mul-if1 c = search needs
-
-slice-read-if1 : tie.Need-slice-read-if1
-slice-read-if1 c = search needs
-
-cast-narrow : tie.Need-cast-narrow
-cast-narrow c = search needs
-
 add-narrow : tie.Need-add-narrow
 add-narrow c = omega (arith, c .before .before .pre .3 (c .if1 .taken))
 
@@ -26,9 +17,6 @@ slice-write-narrow c = omega (arith, c .before .before .pre .3 (c .if1 .taken))
 add-result : tie.Need-add-result
 add-result c = omega (arith, c .before .before .pre .3 (c .if1 .taken))
 
-same-length : tie.Need-same-length
-same-length c = search needs
-
 returns : tie.Need-returns
 returns c = let g = c .before .before in queued-push _ _ _ _ (g .pre .3 (c .if1 .taken)) (g .pre .2) (c .if1 .taken)
 
@@ -39,13 +27,13 @@ pub note-spec : {M : Type 1} → statement M
 note-spec =
     tie.close
     (tie.spec
-    mul-if1
-    slice-read-if1
-    cast-narrow
+    (λ c. search needs)
+    (λ c. search needs)
+    (λ c. search needs)
     add-narrow
     mul-narrow
     slice-write-narrow
     add-result
-    same-length
+    (λ c. search needs)
     returns
     returns-2)

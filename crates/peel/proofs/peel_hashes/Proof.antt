@@ -28,23 +28,11 @@ begun k =
     ready-start _ (a .g .cells) (mixed (a .g .seed) (a .hashes .now)) _ (k .before .before .before .before .before .before .before .before .load .last .1 .1 .0) _ _ (whole-placed (a .g) (s .pre .0) (a .hashes .now)) (k .before .before .before .before .before .before .before .before .load .ensures)
     (k .before .before .queue-ones .ensures) (search needs) (omega arith) (omega arith)
 
-slice-relend-prefix-clear-u64 : tie.Need-slice-relend-prefix-clear-u64
-slice-relend-prefix-clear-u64 c = search needs
-
 slice-aggregate-clear-u64 : tie.Need-slice-aggregate-clear-u64
 slice-aggregate-clear-u64 c = let s = c .before .before .before .before in sym (length-take-le (s .args .g .cells) (s .args .wide .now) (omega arith))
 
-clear-u64-requires : tie.Need-clear-u64-requires
-clear-u64-requires c κs = search needs
-
-slice-relend-prefix-clear-u32 : tie.Need-slice-relend-prefix-clear-u32
-slice-relend-prefix-clear-u32 c = search needs
-
 slice-aggregate-clear-u32 : tie.Need-slice-aggregate-clear-u32
 slice-aggregate-clear-u32 c = let s = c .before .before .before .before .before .before .before .before in sym (length-take-le (s .args .g .cells) (s .args .narrow .now) (omega arith))
-
-clear-u32-requires : tie.Need-clear-u32-requires
-clear-u32-requires c κs = search needs
 
 load-requires : tie.Need-load-requires
 load-requires c κs =
@@ -60,12 +48,6 @@ queue-ones-requires c κs = let s = c .before .before .before .before .before .b
 peel-all-requires : tie.Need-peel-all-requires
 peel-all-requires c κs = let s = c .before .before .before .before .before .before .before .before .before .before .before .before .before .before .before .before .before .before .before .before .before .before .before .before in (s .pre .0, (mixed (s .args .g .seed) (s .args .hashes .now), begun (c .before .before)))
 
-same-length : tie.Need-same-length
-same-length c = search needs
-
-same-length-2 : tie.Need-same-length-2
-same-length-2 c = search needs
-
 returns : tie.Need-returns
 returns c = let a = c .before .before .before .before .before .before .before .before .before .before .before .before .before .before .before .before .before .before .before .before .before .before .before .before .before .before .before .before .before .args in c .before .before .before .before .peel-all .ensures (mixed (a .g .seed) (a .hashes .now)) (begun (c .before .before .before .before .before .before .before))
 
@@ -73,15 +55,15 @@ pub peel-hashes-spec : {M : Type 1} → statement M
 peel-hashes-spec =
     tie.close
     (tie.spec
-    slice-relend-prefix-clear-u64
+    (λ c. search needs)
     slice-aggregate-clear-u64
-    clear-u64-requires
-    slice-relend-prefix-clear-u32
+    (λ c κs. search needs)
+    (λ c. search needs)
     slice-aggregate-clear-u32
-    clear-u32-requires
+    (λ c κs. search needs)
     load-requires
     queue-ones-requires
     peel-all-requires
-    same-length
-    same-length-2
+    (λ c. search needs)
+    (λ c. search needs)
     returns)

@@ -51,9 +51,6 @@ returns c =
     let k = ready-empty _ _ hs s _ _ _ (rw (c .if1 .taken) at R) in
     rw k R
 
-sub-t : tie.Need-sub-t
-sub-t c = search needs
-
 add-e : tie.Need-add-e
 add-e c = omega (arith, queue-in (c .before .before .before) (c .if1 .left))
 
@@ -106,17 +103,11 @@ slice-write-narrow c = stack-in (c .before .before .before .before .before .befo
 positions-requires : tie.Need-positions-requires
 positions-requires c κs = c .before .before .before .before .before .before .before .pre .0 .usable
 
-slice-aggregate-change : tie.Need-slice-aggregate-change
-slice-aggregate-change c = search needs
-
 change-requires : tie.Need-change-requires
 change-requires c κs =
     let R = given (c .before .before .before .before .before .before .before .before .before .before .before) (c .before .before .before .before .before .before .before .before .if1 .left) in
     let u = cells-under _ _ _ _ _ _ _ _ R (c .before .before .before .before .before .if2 .left) _ (c .before .before .before .positions .ensures) in
     ((λ v z. u v (let z' = rw length-set at z in omega (arith, R .narrow-room))), λ v z. u v (let z' = rw length-set at z in omega (arith, R .wide-room)))
-
-slice-aggregate-queue-cells : tie.Need-slice-aggregate-queue-cells
-slice-aggregate-queue-cells c = search needs
 
 queue-cells-requires : tie.Need-queue-cells-requires
 queue-cells-requires c κs =
@@ -167,7 +158,7 @@ step-spec =
     tie.close
     (tie.spec
     returns
-    sub-t
+    (λ c. search needs)
     add-e
     mul-e
     slice-read-e
@@ -185,9 +176,9 @@ step-spec =
     mul-narrow
     slice-write-narrow
     positions-requires
-    slice-aggregate-change
+    (λ c. search needs)
     change-requires
-    slice-aggregate-queue-cells
+    (λ c. search needs)
     queue-cells-requires
     add-t15
     same-length

@@ -7,17 +7,11 @@ use borrow.Author.Needs.{needs}
 use Rattle.point.proofs.locate.Statement.{statement}
 use Rattle.point.proofs.locate.Tie as tie
 
-header-refusal-requires : tie.Need-header-refusal-requires
-header-refusal-requires c κs = search needs
-
 returns : tie.Need-returns
 returns c = sym (locate-refused _ _ _ (c .before .header-refusal .ensures) (c .if1 .taken))
 
 seed-in-requires : tie.Need-seed-in-requires
 seed-in-requires c κs = let h = headed _ (sym (c .before .header-refusal .ensures) ∙ c .if1 .left) in omega arith
-
-hash-requires : tie.Need-hash-requires
-hash-requires c κs = search needs
 
 locate-hash-requires : tie.Need-locate-hash-requires
 locate-hash-requires c κs = sym (c .before .before .before .header-refusal .ensures) ∙ c .before .before .if1 .left
@@ -29,9 +23,9 @@ pub locate-spec : {M : Type 1} → statement M
 locate-spec =
     tie.close
     (tie.spec
-    header-refusal-requires
+    (λ c κs. search needs)
     returns
     seed-in-requires
-    hash-requires
+    (λ c κs. search needs)
     locate-hash-requires
     returns-2)

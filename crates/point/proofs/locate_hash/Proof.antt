@@ -11,35 +11,17 @@ use Rattle.point.proofs.locate_hash.Tie as tie
 keys-in-requires : tie.Need-keys-in-requires
 keys-in-requires c κs = let h = headed _ (c .before .pre) in omega arith
 
-pilot-of-requires : tie.Need-pilot-of-requires
-pilot-of-requires c κs = search needs
-
-direct-past-requires : tie.Need-direct-past-requires
-direct-past-requires c κs = search needs
-
 returns : tie.Need-returns
 returns c = sym (locate-past _ (c .before .before .before .before .before .args .h) _ _ (c .before .before .before .keys-in .ensures) (c .before .before .pilot-of .ensures) (leb-true _ _ (sym (c .before .direct-past .ensures) ∙ c .if1 .taken)))
 
 slot-of-requires : tie.Need-slot-of-requires
 slot-of-requires c κs = (c .before .before .before .before .before .pre, near-is _ (c .before .before .before .before .before .args .h) _ _ (c .before .before .before .keys-in .ensures) (c .before .before .pilot-of .ensures) (leb-false _ _ (sym (c .before .direct-past .ensures) ∙ c .if1 .left)))
 
-add-u16-at : tie.Need-add-u16-at
-add-u16-at c = search needs
-
-u16-at-requires : tie.Need-u16-at-requires
-u16-at-requires c κs = search needs
-
-fingerprint-requires : tie.Need-fingerprint-requires
-fingerprint-requires c κs = search needs
-
 returns-2 : tie.Need-returns-2
 returns-2 c = sym (locate-other _ (c .before .before .before .before .before .before .before .before .before .args .h) _ _ (c .before .before .before .before .before .before .before .keys-in .ensures) (c .before .before .before .before .before .before .pilot-of .ensures) (leb-false _ _ (sym (c .before .before .before .before .before .direct-past .ensures) ∙ c .before .before .before .before .if1 .left)) _ _ _ (c .before .before .before .slot-of .ensures .0) (c .before .before .u16-at .ensures) (c .before .fingerprint .ensures) (c .if2 .taken))
 
 arena-in-requires : tie.Need-arena-in-requires
 arena-in-requires c κs = let h = headed _ (c .before .before .before .before .before .before .before .before .before .pre) in omega arith
-
-u64-at-requires : tie.Need-u64-at-requires
-u64-at-requires c κs = search needs
 
 sub-if3 : tie.Need-sub-if3
 sub-if3 c = let h = headed _ (c .before .before .before .before .before .before .before .before .before .before .before .pre) in omega arith
@@ -64,16 +46,16 @@ locate-hash-spec =
     tie.close
     (tie.spec
     keys-in-requires
-    pilot-of-requires
-    direct-past-requires
+    (λ c κs. search needs)
+    (λ c κs. search needs)
     returns
     slot-of-requires
-    add-u16-at
-    u16-at-requires
-    fingerprint-requires
+    (λ c. search needs)
+    (λ c κs. search needs)
+    (λ c κs. search needs)
     returns-2
     arena-in-requires
-    u64-at-requires
+    (λ c κs. search needs)
     sub-if3
     returns-3
     add-place

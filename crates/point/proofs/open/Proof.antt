@@ -6,20 +6,8 @@ use borrow.Author.Needs.{needs}
 use Rattle.point.proofs.open.Statement.{statement}
 use Rattle.point.proofs.open.Tie as tie
 
-locate-requires : tie.Need-locate-requires
-locate-requires c κs = search needs
-
-enum-known-l : tie.Need-enum-known-l
-enum-known-l c = search needs
-
-open-record-requires : tie.Need-open-record-requires
-open-record-requires c κs = search needs
-
 enum-told : tie.Need-enum-told
 enum-told c = search needs
-
-enum-told-2 : tie.Need-enum-told-2
-enum-told-2 c = search needs
 
 returns : tie.Need-returns
 returns c = c .open-record .ensures ∙ sym (open-is _ (c .before .before .before .before .before .before .before .args .key .now) _ (c .before .before .before .before .locate .ensures) ∙ ap (openAt _ _) (c .before .before .l .given .1))
@@ -34,11 +22,11 @@ pub open-spec : {M : Type 1} → statement M
 open-spec =
     tie.close
     (tie.spec
-    locate-requires
-    enum-known-l
-    open-record-requires
+    (λ c κs. search needs)
+    (λ c. search needs)
+    (λ c κs. search needs)
     enum-told
-    enum-told-2
+    (λ c. search needs)
     returns
     returns-2
     returns-3)

@@ -11,17 +11,8 @@ use Rattle.point.proofs.GetLaws.{record-outside, record-other, record-s
 use Rattle.point.proofs.open_record.Statement.{statement}
 use Rattle.point.proofs.open_record.Tie as tie
 
-head-at-requires : tie.Need-head-at-requires
-head-at-requires c κs = search needs
-
-enum-known-read : tie.Need-enum-known-read
-enum-known-read c = search needs
-
 key-at-requires : tie.Need-key-at-requires
 key-at-requires c κs = head-read _ _ (c .before .read .given .0 .0) (sym (c .before .before .before .head-at .ensures) ∙ c .before .read .given .1) .0
-
-same-requires : tie.Need-same-requires
-same-requires c κs = search needs
 
 returns : tie.Need-returns
 returns c =
@@ -44,4 +35,4 @@ returns-3 : tie.Need-returns-3
 returns-3 c = sym (record-outside _ _ _ (sym (c .before .before .head-at .ensures) ∙ c .enum-told .given .1))
 
 pub open-record-spec : {M : Type 1} → statement M
-open-record-spec = tie.close (tie.spec head-at-requires enum-known-read key-at-requires same-requires returns enum-told returns-2 returns-3)
+open-record-spec = tie.close (tie.spec (λ c κs. search needs) (λ c. search needs) key-at-requires (λ c κs. search needs) returns enum-told returns-2 returns-3)

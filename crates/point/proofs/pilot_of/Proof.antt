@@ -10,9 +10,6 @@ use Rattle.point.proofs.pilot_of.Tie as tie
 buckets-in-requires : tie.Need-buckets-in-requires
 buckets-in-requires c κs = let h = headed _ (c .before .pre) in omega arith
 
-cast-bucket : tie.Need-cast-bucket
-cast-bucket c = search needs
-
 bucket-requires : tie.Need-bucket-requires
 bucket-requires c κs = let h = headed _ (c .before .before .pre) in omega arith
 
@@ -33,7 +30,7 @@ pilot-of-spec =
     tie.close
     (tie.spec
     buckets-in-requires
-    cast-bucket
+    (λ c. search needs)
     bucket-requires
     mul-u32-at
     add-u32-at

@@ -8,20 +8,8 @@ use Rattle.point.proofs.slot_of.Tie as tie
 buckets-in-requires : tie.Need-buckets-in-requires
 buckets-in-requires c κs = let h = headed _ (c .before .pre .0) in omega arith
 
-cast-b : tie.Need-cast-b
-cast-b c = search needs
-
 keys-in-requires : tie.Need-keys-in-requires
 keys-in-requires c κs = let h = headed _ (c .before .before .pre .0) in omega arith
-
-cast-n : tie.Need-cast-n
-cast-n c = search needs
-
-pilot-of-requires : tie.Need-pilot-of-requires
-pilot-of-requires c κs = search needs
-
-slot-by-requires : tie.Need-slot-by-requires
-slot-by-requires c κs = search needs
 
 slot-at-requires : tie.Need-slot-at-requires
 slot-at-requires c κs =
@@ -44,4 +32,4 @@ returns c =
     (e, omega arith)
 
 pub slot-of-spec : {M : Type 1} → statement M
-slot-of-spec = tie.close (tie.spec buckets-in-requires cast-b keys-in-requires cast-n pilot-of-requires slot-by-requires slot-at-requires returns)
+slot-of-spec = tie.close (tie.spec buckets-in-requires (λ c. search needs) keys-in-requires (λ c. search needs) (λ c κs. search needs) (λ c κs. search needs) slot-at-requires returns)

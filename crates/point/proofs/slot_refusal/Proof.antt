@@ -6,14 +6,8 @@ use Rattle.point.proofs.ValidateLaws.{checked-near, slot-of-key}
 use Rattle.point.proofs.slot_refusal.Statement.{statement}
 use Rattle.point.proofs.slot_refusal.Tie as tie
 
-key-at-requires : tie.Need-key-at-requires
-key-at-requires c κs = search needs
-
 seed-in-requires : tie.Need-seed-in-requires
 seed-in-requires c κs = let h = headed _ (c .before .before .pre .checked .header) in omega arith
-
-hash-requires : tie.Need-hash-requires
-hash-requires c κs = search needs
 
 slot-test-requires : tie.Need-slot-test-requires
 slot-test-requires c κs =
@@ -25,4 +19,4 @@ returns c =
     slot-of-key _ _ (c .before .before .before .before .before .args .p) _ _ _ (c .before .before .before .key-at .ensures) (c .before .before .seed-in .ensures) (c .before .hash .ensures) (c .slot-test .ensures)
 
 pub slot-refusal-spec : {M : Type 1} → statement M
-slot-refusal-spec = tie.close (tie.spec key-at-requires seed-in-requires hash-requires slot-test-requires returns)
+slot-refusal-spec = tie.close (tie.spec (λ c κs. search needs) seed-in-requires (λ c κs. search needs) slot-test-requires returns)

@@ -10,29 +10,11 @@ use Rattle.point.proofs.slot_test.Tie as tie
 slot-of-requires : tie.Need-slot-of-requires
 slot-of-requires c κs = (c .before .pre .0, c .before .pre .1)
 
-u64-at-requires : tie.Need-u64-at-requires
-u64-at-requires c κs = search needs
-
 arena-in-requires : tie.Need-arena-in-requires
 arena-in-requires c κs = let h = headed _ (c .before .before .before .pre .0) in omega arith
 
-sub-if1 : tie.Need-sub-if1
-sub-if1 c = search needs
-
 returns : tie.Need-returns
 returns c = sym (slot-elsewhere _ _ (c .before .before .before .before .before .args .p) _ _ _ (c .before .before .before .slot-of .ensures .0) (c .before .before .u64-at .ensures) (c .before .arena-in .ensures) (c .if1 .taken))
-
-add-u32-at : tie.Need-add-u32-at
-add-u32-at c = search needs
-
-u32-at-requires : tie.Need-u32-at-requires
-u32-at-requires c κs = search needs
-
-fingerprint-requires : tie.Need-fingerprint-requires
-fingerprint-requires c κs = search needs
-
-cast-if2 : tie.Need-cast-if2
-cast-if2 c = search needs
 
 returns-2 : tie.Need-returns-2
 returns-2 c = sym (slot-differs _ _ (c .before .before .before .before .before .before .before .before .args .p) _ _ _ (c .before .before .before .before .before .before .slot-of .ensures .0) (c .before .before .before .before .before .u64-at .ensures) (c .before .before .before .before .arena-in .ensures) (c .before .before .before .if1 .left) _ _ (c .before .before .u32-at .ensures) (c .before .fingerprint .ensures) (c .if2 .taken))
@@ -45,13 +27,13 @@ slot-test-spec =
     tie.close
     (tie.spec
     slot-of-requires
-    u64-at-requires
+    (λ c κs. search needs)
     arena-in-requires
-    sub-if1
+    (λ c. search needs)
     returns
-    add-u32-at
-    u32-at-requires
-    fingerprint-requires
-    cast-if2
+    (λ c. search needs)
+    (λ c κs. search needs)
+    (λ c κs. search needs)
+    (λ c. search needs)
     returns-2
     returns-3)

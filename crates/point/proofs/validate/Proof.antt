@@ -6,9 +6,6 @@ use borrow.Author.Needs.{needs}
 use Rattle.point.proofs.validate.Statement.{statement}
 use Rattle.point.proofs.validate.Tie as tie
 
-validation-refusal-requires : tie.Need-validation-refusal-requires
-validation-refusal-requires c κs = search needs
-
 returns : tie.Need-returns
 unfolding validateOf
 returns c = sym (ap verdict (sym (c .before .validation-refusal .ensures) ∙ c .if1 .taken))
@@ -18,4 +15,4 @@ unfolding validateOf
 returns-2 c = sym (ap verdict (sym (c .before .validation-refusal .ensures)) ∙ verdict-refused _ (c .if1 .left))
 
 pub validate-spec : {M : Type 1} → statement M
-validate-spec = tie.close (tie.spec validation-refusal-requires returns returns-2)
+validate-spec = tie.close (tie.spec (λ c κs. search needs) returns returns-2)

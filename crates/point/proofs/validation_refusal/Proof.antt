@@ -5,9 +5,6 @@ use borrow.Author.Needs.{needs}
 use Rattle.point.proofs.validation_refusal.Statement.{statement}
 use Rattle.point.proofs.validation_refusal.Tie as tie
 
-header-refusal-requires : tie.Need-header-refusal-requires
-header-refusal-requires c κs = search needs
-
 returns : tie.Need-returns
 returns c = sym (validation-header _ _ _ (c .before .header-refusal .ensures) (c .if1 .taken))
 
@@ -27,7 +24,7 @@ pub validation-refusal-spec : {M : Type 1} → statement M
 validation-refusal-spec =
     tie.close
     (tie.spec
-    header-refusal-requires
+    (λ c κs. search needs)
     returns
     pilots-refusal-requires
     returns-2

@@ -6,38 +6,14 @@ use borrow.Author.Needs.{needs}
 use Rattle.point.proofs.value.Statement.{statement}
 use Rattle.point.proofs.value.Tie as tie
 
-get-requires : tie.Need-get-requires
-get-requires c κs = search needs
-
-enum-known-a : tie.Need-enum-known-a
-enum-known-a c = search needs
-
-cast-to : tie.Need-cast-to
-cast-to c = search needs
-
 add-to : tie.Need-add-to
 add-to c = let f = get-fits _ _ _ _ (c .before .before .a .given .0 .0) (sym (c .before .before .before .before .get .ensures) ∙ c .before .before .a .given .1) in omega arith
-
-sub-result : tie.Need-sub-result
-sub-result c = search needs
-
-part-result-start : tie.Need-part-result-start
-part-result-start c = search needs
 
 part-result-end : tie.Need-part-result-end
 part-result-end c = let f = get-fits _ _ _ _ (c .before .before .a .given .0 .0) (sym (c .before .before .before .before .get .ensures) ∙ c .before .before .a .given .1) in search needs
 
 enum-told : tie.Need-enum-told
 enum-told c = search needs
-
-slice-aggregate-result : tie.Need-slice-aggregate-result
-slice-aggregate-result c = search needs
-
-enum-told-2 : tie.Need-enum-told-2
-enum-told-2 c = search needs
-
-slice-aggregate-result-2 : tie.Need-slice-aggregate-result-2
-slice-aggregate-result-2 c = search needs
 
 returns : tie.Need-returns
 returns c = value-found _ _ (c .before .before .before .before .before .before .before .before .before .args .key .now) (c .before .before .before .before .before .before .before .before .before .args .limit) _ (c .before .before .before .before .before .get .ensures) (c .before .before .before .before .before .before .before .before .before .args .«data» .ptr) refl (c .before .before .before .a .given .0 .0) (c .before .before .before .a .given .1) (omega arith)
@@ -52,17 +28,17 @@ pub value-spec : {M : Type 1} → statement M
 value-spec =
     tie.close
     (tie.spec
-    get-requires
-    enum-known-a
-    cast-to
+    (λ c κs. search needs)
+    (λ c. search needs)
+    (λ c. search needs)
     add-to
-    sub-result
-    part-result-start
+    (λ c. search needs)
+    (λ c. search needs)
     part-result-end
     enum-told
-    slice-aggregate-result
-    enum-told-2
-    slice-aggregate-result-2
+    (λ c. search needs)
+    (λ c. search needs)
+    (λ c. search needs)
     returns
     returns-2
     returns-3)

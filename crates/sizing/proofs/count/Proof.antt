@@ -12,9 +12,6 @@ use Rattle.sizing.proofs.SizedLaws.{row-of, same-length, segments-withi
 use Rattle.sizing.proofs.count.Statement.{statement}
 use Rattle.sizing.proofs.count.Tie as tie
 
-slice-aggregate-up-to : tie.Need-slice-aggregate-up-to
-slice-aggregate-up-to c = search needs
-
 up-to-requires : tie.Need-up-to-requires
 unfolding rises risesFrom
 up-to-requires c κs = refl
@@ -66,4 +63,4 @@ returns c = ap (λ (x : ℕ). x - 3) (at-row c)
 pub count-spec : {M : Type 1} → statement M
 count-spec =
     tie.close
-    (tie.spec slice-aggregate-up-to up-to-requires sub-row mul-result array-read-result sub-result returns)
+    (tie.spec (λ c. search needs) up-to-requires sub-row mul-result array-read-result sub-result returns)

@@ -12,9 +12,6 @@ use Rattle.sizing.proofs.ExponentLaws.{exponent-le, exponent-table}
 use Rattle.sizing.proofs.segment.Statement.{statement}
 use Rattle.sizing.proofs.segment.Tie as tie
 
-slice-aggregate-up-to : tie.Need-slice-aggregate-up-to
-slice-aggregate-up-to c = search needs
-
 up-to-requires : tie.Need-up-to-requires
 unfolding rises risesFrom
 up-to-requires c κs = refl
@@ -44,4 +41,4 @@ returns c =
 
 pub segment-spec : {M : Type 1} → statement M
 segment-spec =
-    tie.close (tie.spec slice-aggregate-up-to up-to-requires sub-exponent cast-result shl-result returns)
+    tie.close (tie.spec (λ c. search needs) up-to-requires sub-exponent cast-result shl-result returns)

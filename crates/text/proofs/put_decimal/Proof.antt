@@ -7,23 +7,11 @@ use borrow.Author.Needs.{needs}
 use Rattle.text.proofs.put_decimal.Statement.{statement}
 use Rattle.text.proofs.put_decimal.Tie as tie
 
-digits-of-requires : tie.Need-digits-of-requires
-digits-of-requires c κs = search needs
-
-sub-put-word : tie.Need-sub-put-word
-sub-put-word c = search needs
-
-part-put-word-start : tie.Need-part-put-word-start
-part-put-word-start c = search needs
-
 part-put-word-end : tie.Need-part-put-word-end
 part-put-word-end c = let e : 20 ≤ length (c .before .before .before .digits-of .result .bytes) = omega (arith, c .before .before .before .digits-of .ensures .whole) in e
 
 put-word-requires : tie.Need-put-word-requires
 put-word-requires c κs = rw (laid-part (c .before .before .before .before .digits-of .ensures)) (c .before .before .before .before .before .before .pre)
-
-same-length : tie.Need-same-length
-same-length c = search needs
 
 returns : tie.Need-returns
 returns c = rw (laid-part (c .before .before .before .before .before .before .before .digits-of .ensures)) at (c .before .before .put-word .ensures)
@@ -32,10 +20,10 @@ pub put-decimal-spec : {M : Type 1} → statement M
 put-decimal-spec =
     tie.close
     (tie.spec
-    digits-of-requires
-    sub-put-word
-    part-put-word-start
+    (λ c κs. search needs)
+    (λ c. search needs)
+    (λ c. search needs)
     part-put-word-end
     put-word-requires
-    same-length
+    (λ c. search needs)
     returns)

@@ -13,12 +13,9 @@ put-decimal-requires : tie.Need-put-decimal-requires
 unfolding field
 put-decimal-requires c κs = ends-second (c .before .before .before .put-byte .ensures) (c .before .before .before .before .before .before .pre)
 
-same-length : tie.Need-same-length
-same-length c = search needs
-
 returns : tie.Need-returns
 unfolding field
 returns c = written-then (c .before .before .before .before .before .before .put-byte .ensures) (c .before .before .put-decimal .ensures)
 
 pub put-field-spec : {M : Type 1} → statement M
-put-field-spec = tie.close (tie.spec put-byte-requires put-decimal-requires same-length returns)
+put-field-spec = tie.close (tie.spec put-byte-requires put-decimal-requires (λ c. search needs) returns)

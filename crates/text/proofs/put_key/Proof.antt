@@ -7,17 +7,11 @@ use Rattle.text.proofs.put_key.Tie as tie
 put-byte-requires : tie.Need-put-byte-requires
 put-byte-requires c κs = rw (key-none _ (c .before .if1 .taken)) at (c .before .before .before .before .pre)
 
-same-length : tie.Need-same-length
-same-length c = search needs
-
 returns : tie.Need-returns
 returns c = rw (key-none _ (c .before .before .before .before .if1 .taken)) (c .before .before .put-byte .ensures)
 
 put-hex-requires : tie.Need-put-hex-requires
 put-hex-requires c κs = rw (key-some _ (c .before .if1 .left)) at (c .before .before .before .before .pre)
-
-same-length-2 : tie.Need-same-length-2
-same-length-2 c = search needs
 
 returns-2 : tie.Need-returns-2
 returns-2 c = rw (key-some _ (c .before .before .before .before .if1 .left)) (c .before .before .put-hex .ensures)
@@ -25,4 +19,4 @@ returns-2 c = rw (key-some _ (c .before .before .before .before .if1 .left)) (c 
 pub put-key-spec : {M : Type 1} → statement M
 put-key-spec =
     tie.close
-    (tie.spec put-byte-requires same-length returns put-hex-requires same-length-2 returns-2)
+    (tie.spec put-byte-requires (λ c. search needs) returns put-hex-requires (λ c. search needs) returns-2)

@@ -13,12 +13,9 @@ put-field-requires : tie.Need-put-field-requires
 unfolding named
 put-field-requires c κs = ends-second (c .before .before .before .put-word .ensures) (c .before .before .before .before .before .before .before .pre)
 
-same-length : tie.Need-same-length
-same-length c = search needs
-
 returns : tie.Need-returns
 unfolding named
 returns c = written-then (c .before .before .before .before .before .before .put-word .ensures) (c .before .before .put-field .ensures)
 
 pub put-named-spec : {M : Type 1} → statement M
-put-named-spec = tie.close (tie.spec put-word-requires put-field-requires same-length returns)
+put-named-spec = tie.close (tie.spec put-word-requires put-field-requires (λ c. search needs) returns)

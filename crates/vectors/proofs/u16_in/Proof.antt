@@ -6,12 +6,6 @@ use Rattle.vectors.proofs.FormatLaws.{field-in, field-out}
 use Rattle.vectors.proofs.u16_in.Statement.{statement}
 use Rattle.vectors.proofs.u16_in.Tie as tie
 
-room-requires : tie.Need-room-requires
-room-requires c κs = search needs
-
-u16-at-requires : tie.Need-u16-at-requires
-u16-at-requires c κs = search needs
-
 returns : tie.Need-returns
 returns c = let s = c .before .before .before .before .args in c .u16-at .ensures ∙ field-in 2 (s .raw .now) (s .at) (omega arith) (omega arith)
 
@@ -19,4 +13,4 @@ returns-2 : tie.Need-returns-2
 returns-2 c = let s = c .before .before .before .args in field-out 2 (s .raw .now) (s .at) (omega arith)
 
 pub u16-in-spec : {M : Type 1} → statement M
-u16-in-spec = tie.close (tie.spec room-requires u16-at-requires returns returns-2)
+u16-in-spec = tie.close (tie.spec (λ c κs. search needs) (λ c κs. search needs) returns returns-2)

@@ -6,12 +6,6 @@ use Rattle.vectors.proofs.FormatLaws.{field-in, field-out}
 use Rattle.vectors.proofs.u32_in.Statement.{statement}
 use Rattle.vectors.proofs.u32_in.Tie as tie
 
-room-requires : tie.Need-room-requires
-room-requires c κs = search needs
-
-u32-at-requires : tie.Need-u32-at-requires
-u32-at-requires c κs = search needs
-
 returns : tie.Need-returns
 returns c = let s = c .before .before .before .before .args in c .u32-at .ensures ∙ field-in 4 (s .raw .now) (s .at) (omega arith) (omega arith)
 
@@ -19,4 +13,4 @@ returns-2 : tie.Need-returns-2
 returns-2 c = let s = c .before .before .before .args in field-out 4 (s .raw .now) (s .at) (omega arith)
 
 pub u32-in-spec : {M : Type 1} → statement M
-u32-in-spec = tie.close (tie.spec room-requires u32-at-requires returns returns-2)
+u32-in-spec = tie.close (tie.spec (λ c κs. search needs) (λ c κs. search needs) returns returns-2)

@@ -7,12 +7,6 @@ use borrow.Author.Needs.{needs}
 use Rattle.vectors.proofs.u8_in.Statement.{statement}
 use Rattle.vectors.proofs.u8_in.Tie as tie
 
-room-requires : tie.Need-room-requires
-room-requires c κs = search needs
-
-shared-slice-read-result : tie.Need-shared-slice-read-result
-shared-slice-read-result c = search needs
-
 returns : tie.Need-returns
 returns c = let s = c .before .before .before .before .args in sym (le-one (s .raw .now) (s .at) (omega arith)) ∙ field-in 1 (s .raw .now) (s .at) (omega arith) (omega arith)
 
@@ -20,4 +14,4 @@ returns-2 : tie.Need-returns-2
 returns-2 c = let s = c .before .before .before .args in field-out 1 (s .raw .now) (s .at) (omega arith)
 
 pub u8-in-spec : {M : Type 1} → statement M
-u8-in-spec = tie.close (tie.spec room-requires shared-slice-read-result returns returns-2)
+u8-in-spec = tie.close (tie.spec (λ c κs. search needs) (λ c. search needs) returns returns-2)

@@ -7,12 +7,6 @@ use Rattle.builder.proofs.AddLaws.{size-small, new-ready, continued-rea
 use Rattle.builder.proofs.PointBuilder.add.Statement.{statement}
 use Rattle.builder.proofs.PointBuilder.add.Tie as tie
 
-add-refusal-requires : tie.Need-add-refusal-requires
-add-refusal-requires c κs = search needs
-
-same-length : tie.Need-same-length
-same-length c = search needs
-
 returns : tie.Need-returns
 returns c =
     let s = c .before .before .before .before .before .args in
@@ -28,9 +22,6 @@ append-new-requires c κs =
     let s = c .before .before .before .before .before .before .before .args in
     new-ready (s .self) (s .buffer .now) (s .key .now) (s .kind) (s .length) (s .sequence) (s .new-key) (c .before .if2 .taken) (sym (c .before .before .before .add-refusal .ensures) ∙ c .before .before .if1 .left)
 
-same-length-2 : tie.Need-same-length-2
-same-length-2 c = search needs
-
 returns-2 : tie.Need-returns-2
 returns-2 c =
     let s = c .before .before .before .before .before .before .before .before .before .before .args in
@@ -41,9 +32,6 @@ append-version-requires c κs =
     let s = c .before .before .before .before .before .before .before .args in
     continued-ready (s .self) (s .buffer .now) (s .key .now) (s .kind) (s .length) (s .sequence) (s .new-key) (c .before .if2 .left) (sym (c .before .before .before .add-refusal .ensures) ∙ c .before .before .if1 .left)
 
-same-length-3 : tie.Need-same-length-3
-same-length-3 c = search needs
-
 returns-3 : tie.Need-returns-3
 returns-3 c =
     let s = c .before .before .before .before .before .before .before .before .before .before .args in
@@ -53,13 +41,13 @@ pub add-spec : {M : Type 1} → statement M
 add-spec =
     tie.close
     (tie.spec
-    add-refusal-requires
-    same-length
+    (λ c κs. search needs)
+    (λ c. search needs)
     returns
     cast-t13
     append-new-requires
-    same-length-2
+    (λ c. search needs)
     returns-2
     append-version-requires
-    same-length-3
+    (λ c. search needs)
     returns-3)

@@ -7,32 +7,17 @@ use Rattle.builder.specs.Add.{addCauses, addRefusal}
 use Rattle.builder.proofs.PointBuilder.add_refusal.Statement.{statement}
 use Rattle.builder.proofs.PointBuilder.add_refusal.Tie as tie
 
-fits-requires : tie.Need-fits-requires
-fits-requires c κs = search needs
-
 returns : tie.Need-returns
 unfolding addRefusal addCauses
 returns c = rw (← (c .before .fits2 .ensures), c .if1 .taken)
-
-cast-if2 : tie.Need-cast-if2
-cast-if2 c = search needs
 
 returns-2 : tie.Need-returns-2
 unfolding addRefusal addCauses
 returns-2 c = rw (← (c .before .before .fits2 .ensures), c .before .if1 .left, lt-ltb _ _ (c .if2 .taken))
 
-cast-if3 : tie.Need-cast-if3
-cast-if3 c = search needs
-
 returns-3 : tie.Need-returns-3
 unfolding addRefusal addCauses
 returns-3 c = rw (← (c .before .before .before .fits2 .ensures), c .before .before .if1 .left, le-ltb _ _ (c .before .if2 .left), lt-ltb _ _ (c .if3 .taken))
-
-byte-requires : tie.Need-byte-requires
-byte-requires c κs = search needs
-
-full-tombstone-requires : tie.Need-full-tombstone-requires
-full-tombstone-requires c κs = search needs
 
 returns-4 : tie.Need-returns-4
 unfolding addRefusal addCauses
@@ -59,14 +44,14 @@ pub add-refusal-spec : {M : Type 1} → statement M
 add-refusal-spec =
     tie.close
     (tie.spec
-    fits-requires
+    (λ c κs. search needs)
     returns
-    cast-if2
+    (λ c. search needs)
     returns-2
-    cast-if3
+    (λ c. search needs)
     returns-3
-    byte-requires
-    full-tombstone-requires
+    (λ c κs. search needs)
+    (λ c κs. search needs)
     returns-4
     new-refusal-requires
     returns-5

@@ -15,9 +15,6 @@ returns c = rw (eq-eqb _ _ (c .if1 .taken))
 key-at-requires : tie.Need-key-at-requires
 key-at-requires c κs = let s = c .before .before .before .before .args in let f = fits-known (s .self) (s .buffer .now) (c .if1 .left) (c .before .before .before .before .pre) in omega arith
 
-same-requires : tie.Need-same-requires
-same-requires c κs = search needs
-
 returns-2 : tie.Need-returns-2
 unfolding continuedCauses lastOf
 returns-2 c = rw (ne-eqb _ _ (c .before .before .before .if1 .left), ← (c .before .before .key-at .ensures), ← (c .before .same .ensures), c .if2 .taken)
@@ -63,7 +60,7 @@ continued-refusal-spec =
     (tie.spec
     returns
     key-at-requires
-    same-requires
+    (λ c κs. search needs)
     returns-2
     sub-u64-at
     u64-at-requires

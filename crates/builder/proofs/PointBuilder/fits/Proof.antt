@@ -28,20 +28,11 @@ returns-6 c = let s = c .before .before .before .before .before .before .before 
 u32-at-requires : tie.Need-u32-at-requires
 u32-at-requires c κs = omega arith
 
-cast-key : tie.Need-cast-key
-cast-key c = search needs
-
 add-u32-at : tie.Need-add-u32-at
 add-u32-at c = omega arith
 
 u32-at-requires-2 : tie.Need-u32-at-requires-2
 u32-at-requires-2 c κs = omega arith
-
-cast-versions : tie.Need-cast-versions
-cast-versions c = search needs
-
-cast-if7 : tie.Need-cast-if7
-cast-if7 c = search needs
 
 returns-7 : tie.Need-returns-7
 returns-7 c = let s = c .before .before .before .before .before .before .before .before .before .before .before .args in fits-not (s .self) (s .buffer .now) (c .before .before .before .before .before .before .before .before .if1 .left) (λ f. omega arith)
@@ -79,11 +70,11 @@ fits-spec =
     returns-5
     returns-6
     u32-at-requires
-    cast-key
+    (λ c. search needs)
     add-u32-at
     u32-at-requires-2
-    cast-versions
-    cast-if7
+    (λ c. search needs)
+    (λ c. search needs)
     returns-7
     returns-8
     sub-if9

@@ -21,12 +21,6 @@ returns-2 c = rw (← (c .before .before .before .rises .ensures), c .before .be
 sub-if3 : tie.Need-sub-if3
 sub-if3 c = let s = c .before .before .before .before .before .before .args in omega (arith, fits-inside (s .self) (s .buffer .now) (c .before .before .before .before .before .before .pre .0))
 
-add-if3 : tie.Need-add-if3
-add-if3 c = search needs
-
-add-if3-2 : tie.Need-add-if3-2
-add-if3-2 c = search needs
-
 returns-3 : tie.Need-returns-3
 unfolding newCauses
 returns-3 c = rw (← (c .before .before .before .before .rises .ensures), c .before .before .before .if1 .left, lt-leb _ _ (c .before .if2 .left), lt-ltb _ _ (c .if3 .taken))
@@ -43,7 +37,7 @@ new-refusal-spec =
     returns
     returns-2
     sub-if3
-    add-if3
-    add-if3-2
+    (λ c. search needs)
+    (λ c. search needs)
     returns-3
     returns-4)

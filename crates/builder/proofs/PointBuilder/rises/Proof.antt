@@ -19,18 +19,6 @@ key-at-requires c κs =
     let f = fits-known (s .self) (s .buffer .now) (c .if1 .left) (c .before .before .before .before .pre) in
     omega arith
 
-compare-requires : tie.Need-compare-requires
-compare-requires c κs = search needs
-
-enum-told : tie.Need-enum-told
-enum-told c = search needs
-
-enum-told-2 : tie.Need-enum-told-2
-enum-told-2 c = search needs
-
-enum-told-3 : tie.Need-enum-told-3
-enum-told-3 c = search needs
-
 returns-2 : tie.Need-returns-2
 returns-2 c = let s = c .before .before .before .before .before .before .before .before .args in rises-known (s .self) (s .buffer .now) (s .key .now) (c .before .before .before .before .if1 .left) Less (cc)
 
@@ -46,10 +34,10 @@ rises-spec =
     (tie.spec
     returns
     key-at-requires
-    compare-requires
-    enum-told
-    enum-told-2
-    enum-told-3
+    (λ c κs. search needs)
+    (λ c. search needs)
+    (λ c. search needs)
+    (λ c. search needs)
     returns-2
     returns-3
     returns-4)

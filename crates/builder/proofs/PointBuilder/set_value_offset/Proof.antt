@@ -8,18 +8,9 @@ use Rattle.builder.proofs.StateLaws.{fits-known}
 use Rattle.builder.proofs.PointBuilder.set_value_offset.Statement.{statement}
 use Rattle.builder.proofs.PointBuilder.set_value_offset.Tie as tie
 
-fits-requires : tie.Need-fits-requires
-fits-requires c κs = search needs
-
-same-length : tie.Need-same-length
-same-length c = search needs
-
 returns : tie.Need-returns
 unfolding setOf bufferAfterSet setCauses
 returns c = let e = c .before .fits2 .ensures in record { answer = rw (← e, c .if1 .taken); buffer = rw (← e, c .if1 .taken) }
-
-same-length-2 : tie.Need-same-length-2
-same-length-2 c = search needs
 
 returns-2 : tie.Need-returns-2
 unfolding setOf bufferAfterSet setCauses
@@ -33,9 +24,6 @@ sub-if3 c =
     let s = c .before .before .before .before .before .before .args in
     let f = fits-known (s .self) (s .buffer .now) (c .if2 .left) (sym (c .before .before .before .fits2 .ensures) ∙ not-false (c .before .before .before .fits2 .result) (c .before .before .if1 .left)) in
     omega arith
-
-same-length-3 : tie.Need-same-length-3
-same-length-3 c = search needs
 
 returns-3 : tie.Need-returns-3
 unfolding setOf bufferAfterSet setCauses
@@ -51,9 +39,6 @@ put-u64-requires c κs =
     let f = fits-known (s .self) (s .buffer .now) (c .before .before .if2 .left) (sym (c .before .before .before .before .before .fits2 .ensures) ∙ not-false (c .before .before .before .before .before .fits2 .result) (c .before .before .before .before .if1 .left)) in
     omega arith
 
-same-length-4 : tie.Need-same-length-4
-same-length-4 c = search needs
-
 returns-4 : tie.Need-returns-4
 unfolding setOf bufferAfterSet setCauses
 returns-4 c =
@@ -66,14 +51,14 @@ pub set-value-offset-spec : {M : Type 1} → statement M
 set-value-offset-spec =
     tie.close
     (tie.spec
-    fits-requires
-    same-length
+    (λ c κs. search needs)
+    (λ c. search needs)
     returns
-    same-length-2
+    (λ c. search needs)
     returns-2
     sub-if3
-    same-length-3
+    (λ c. search needs)
     returns-3
     put-u64-requires
-    same-length-4
+    (λ c. search needs)
     returns-4)

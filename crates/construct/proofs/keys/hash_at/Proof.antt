@@ -9,11 +9,8 @@ use Rattle.construct.proofs.keys.hash_at.Tie as tie
 key-at-requires : tie.Need-key-at-requires
 key-at-requires c κs = omega arith
 
-hash-requires : tie.Need-hash-requires
-hash-requires c κs = search needs
-
 returns : tie.Need-returns
 returns c = c .hash .ensures ∙ ap (hashOf (c .before .before .before .args .seed)) (c .before .key-at .ensures)
 
 pub hash-at-spec : {M : Type 1} → statement M
-hash-at-spec = tie.close (tie.spec key-at-requires hash-requires returns)
+hash-at-spec = tie.close (tie.spec key-at-requires (λ c κs. search needs) returns)

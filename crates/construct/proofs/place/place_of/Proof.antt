@@ -5,21 +5,6 @@ use Rattle.construct.proofs.BenchLaws.{bench-inside, of-other, of-same}
 use Rattle.construct.proofs.place.place_of.Statement.{statement}
 use Rattle.construct.proofs.place.place_of.Tie as tie
 
-add-if1 : tie.Need-add-if1
-add-if1 c = search needs
-
-mul-if1 : tie.Need-mul-if1
-mul-if1 c = search needs
-
-slice-read-if1 : tie.Need-slice-read-if1
-slice-read-if1 c = search needs
-
-mul-if1-2 : tie.Need-mul-if1-2
-mul-if1-2 c = search needs
-
-slice-read-if1-2 : tie.Need-slice-read-if1-2
-slice-read-if1-2 c = search needs
-
 sub-if1 : tie.Need-sub-if1
 sub-if1 c = omega (arith, bench-inside _ _ _ _ (c .before .before .before .before .pre .0) _ (c .before .before .before .before .pre .1 .0))
 
@@ -27,12 +12,6 @@ returns : tie.Need-returns
 returns c =
     let pre = c .before .before .before .before .before .pre in
     of-other _ _ _ _ (pre .0) _ (pre .1 .0) _ (c .if1 .taken)
-
-place-group-requires : tie.Need-place-group-requires
-place-group-requires c κs = search needs
-
-same-length : tie.Need-same-length
-same-length c = search needs
 
 returns-2 : tie.Need-returns-2
 returns-2 c =
@@ -45,13 +24,13 @@ pub place-of-spec : {M : Type 1} → statement M
 place-of-spec =
     tie.close
     (tie.spec
-    add-if1
-    mul-if1
-    slice-read-if1
-    mul-if1-2
-    slice-read-if1-2
+    (λ c. search needs)
+    (λ c. search needs)
+    (λ c. search needs)
+    (λ c. search needs)
+    (λ c. search needs)
     sub-if1
     returns
-    place-group-requires
-    same-length
+    (λ c κs. search needs)
+    (λ c. search needs)
     returns-2)

@@ -9,12 +9,6 @@ use Rattle.construct.specs.Construct.{spot}
 use Rattle.construct.proofs.seat.spot_of.Statement.{statement}
 use Rattle.construct.proofs.seat.spot_of.Tie as tie
 
-hash-of-requires : tie.Need-hash-of-requires
-hash-of-requires c κs = search needs
-
-position-requires : tie.Need-position-requires
-position-requires c κs = search needs
-
 returns : tie.Need-returns
 unfolding spot
 returns c =
@@ -24,4 +18,4 @@ returns c =
     (c .position .ensures ∙ ap (λ (x : ℕ). positionOf x (at .pilot) (length (now (at .hs)))) (hash-of .ensures), subst (λ (x : ℕ). x < length (now (at .hs))) (sym (c .position .ensures)) (positionOf-lt _ _ _ (pre .0 .any)))
 
 pub spot-of-spec : {M : Type 1} → statement M
-spot-of-spec = tie.close (tie.spec hash-of-requires position-requires returns)
+spot-of-spec = tie.close (tie.spec (λ c κs. search needs) (λ c κs. search needs) returns)

@@ -5,12 +5,6 @@ use Rattle.construct.proofs.SeatsLaws.{sat-all, sat-few}
 use Rattle.construct.proofs.seat.try_pilot.Statement.{statement}
 use Rattle.construct.proofs.seat.try_pilot.Tie as tie
 
-seat-members-requires : tie.Need-seat-members-requires
-seat-members-requires c κs = search needs
-
-same-length : tie.Need-same-length
-same-length c = search needs
-
 returns : tie.Need-returns
 returns c = sat-all _ _ _ _ _ _ (c .before .before .before .seat-members .ensures) (c .if1 .taken)
 
@@ -19,9 +13,6 @@ unseat-requires c κs =
     let pre = c .before .before .before .before .before .before .before .before .before .pre in
     let seat-members = c .before .before .before .before .seat-members in
     (record { of = pre .of; same = seat-members .kept .1 .1 .0 ∙ pre .same }, seat-members .ensures .most)
-
-same-length-2 : tie.Need-same-length-2
-same-length-2 c = search needs
 
 returns-2 : tie.Need-returns-2
 returns-2 c =
@@ -33,4 +24,4 @@ returns-2 c =
 pub try-pilot-spec : {M : Type 1} → statement M
 try-pilot-spec =
     tie.close
-    (tie.spec seat-members-requires same-length returns unseat-requires same-length-2 returns-2)
+    (tie.spec (λ c κs. search needs) (λ c. search needs) returns unseat-requires (λ c. search needs) returns-2)

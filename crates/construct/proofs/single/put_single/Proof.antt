@@ -9,12 +9,6 @@ use Rattle.construct.proofs.SinglesLaws.{single-key}
 use Rattle.construct.proofs.single.put_single.Statement.{statement}
 use Rattle.construct.proofs.single.put_single.Tie as tie
 
-mul-s : tie.Need-mul-s
-mul-s c = search needs
-
-slice-read-s : tie.Need-slice-read-s
-slice-read-s c = search needs
-
 cast-s : tie.Need-cast-s
 cast-s c = omega (arith, bench-inside _ _ _ _ (c .before .pre .0) _ (c .before .pre .1 .0), c .before .pre .1 .1)
 
@@ -37,41 +31,8 @@ cast-w c =
     let pre = c .before .before .pre in
     omega (arith, single-key _ _ _ _ (pre .0) _ (pre .1 .0) (pre .1 .1), pre .0 .most)
 
-add-w-2 : tie.Need-add-w-2
-add-w-2 c = search needs
-
-add-w-3 : tie.Need-add-w-3
-add-w-3 c = search needs
-
-add-w-4 : tie.Need-add-w-4
-add-w-4 c = search needs
-
-mul-w : tie.Need-mul-w
-mul-w c = search needs
-
-slice-write-w : tie.Need-slice-write-w
-slice-write-w c = search needs
-
-cast-w-2 : tie.Need-cast-w-2
-cast-w-2 c = search needs
-
-add-w-5 : tie.Need-add-w-5
-add-w-5 c = search needs
-
-add-w-6 : tie.Need-add-w-6
-add-w-6 c = search needs
-
-add-w-7 : tie.Need-add-w-7
-add-w-7 c = search needs
-
-mul-w-2 : tie.Need-mul-w-2
-mul-w-2 c = search needs
-
 slice-write-w-2 : tie.Need-slice-write-w-2
 slice-write-w-2 c = simp length-set (omega (arith, c .before .before .pre .1 .0, c .before .before .pre .0 .room))
-
-same-length : tie.Need-same-length
-same-length c = search needs
 
 returns : tie.Need-returns
 unfolding direct
@@ -81,24 +42,24 @@ pub put-single-spec : {M : Type 1} → statement M
 put-single-spec =
     tie.close
     (tie.spec
-    mul-s
-    slice-read-s
+    (λ c. search needs)
+    (λ c. search needs)
     cast-s
     add-s
     mul-m
     shared-slice-read-m
     add-w
     cast-w
-    add-w-2
-    add-w-3
-    add-w-4
-    mul-w
-    slice-write-w
-    cast-w-2
-    add-w-5
-    add-w-6
-    add-w-7
-    mul-w-2
+    (λ c. search needs)
+    (λ c. search needs)
+    (λ c. search needs)
+    (λ c. search needs)
+    (λ c. search needs)
+    (λ c. search needs)
+    (λ c. search needs)
+    (λ c. search needs)
+    (λ c. search needs)
+    (λ c. search needs)
     slice-write-w-2
-    same-length
+    (λ c. search needs)
     returns)

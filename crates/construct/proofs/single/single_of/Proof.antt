@@ -8,21 +8,6 @@ use Rattle.construct.proofs.SinglesLaws.{single-other, lent-taken, sing
 use Rattle.construct.proofs.single.single_of.Statement.{statement}
 use Rattle.construct.proofs.single.single_of.Tie as tie
 
-add-if1 : tie.Need-add-if1
-add-if1 c = search needs
-
-mul-if1 : tie.Need-mul-if1
-mul-if1 c = search needs
-
-slice-read-if1 : tie.Need-slice-read-if1
-slice-read-if1 c = search needs
-
-mul-if1-2 : tie.Need-mul-if1-2
-mul-if1-2 c = search needs
-
-slice-read-if1-2 : tie.Need-slice-read-if1-2
-slice-read-if1-2 c = search needs
-
 sub-if1 : tie.Need-sub-if1
 sub-if1 c = omega (arith, bench-inside _ _ _ _ (c .before .before .before .before .pre .0) _ (c .before .before .before .before .pre .1 .0))
 
@@ -31,38 +16,11 @@ returns c =
     let pre = c .before .before .before .before .before .pre in
     single-other _ _ _ _ (pre .0) _ (pre .1 .0) _ (pre .1 .1) (pre .1 .2) (c .if1 .taken)
 
-add-base : tie.Need-add-base
-add-base c = search needs
-
-add-base-2 : tie.Need-add-base-2
-add-base-2 c = search needs
-
-add-next-free : tie.Need-add-next-free
-add-next-free c = search needs
-
-mul-next-free : tie.Need-mul-next-free
-mul-next-free c = search needs
-
-sub-next-free : tie.Need-sub-next-free
-sub-next-free c = search needs
-
-part-next-free-start : tie.Need-part-next-free-start
-part-next-free-start c = search needs
-
-part-next-free-end : tie.Need-part-next-free-end
-part-next-free-end c = search needs
-
 next-free-requires : tie.Need-next-free-requires
 next-free-requires c κs =
     let pre = c .before .before .before .before .before .before .before .pre in
     let args = c .before .before .before .before .before .before .before .args in
     lent-taken _ _ _ _ (pre .0) _ (pre .1 .0) _ (add-sub-cancel-left (args .b + 1 + args .b) (args .n)) _ (pre .1 .1) (pre .1 .2)
-
-add-result : tie.Need-add-result
-add-result c = search needs
-
-same-length : tie.Need-same-length
-same-length c = search needs
 
 returns-2 : tie.Need-returns-2
 returns-2 c =
@@ -71,15 +29,6 @@ returns-2 c =
     let if1 = c .before .before .before .before .if1 in
     let next-free = c .before .next-free in
     single-full _ _ _ _ (pre .0) _ (pre .1 .0) _ (add-sub-cancel-left (args .b + 1 + args .b) (args .n)) (if1 .left) _ (next-free .ensures) (c .if2 .taken)
-
-put-single-requires : tie.Need-put-single-requires
-put-single-requires c κs = search needs
-
-add-result-2 : tie.Need-add-result-2
-add-result-2 c = search needs
-
-same-length-2 : tie.Need-same-length-2
-same-length-2 c = search needs
 
 returns-3 : tie.Need-returns-3
 returns-3 c =
@@ -95,25 +44,25 @@ pub single-of-spec : {M : Type 1} → statement M
 single-of-spec =
     tie.close
     (tie.spec
-    add-if1
-    mul-if1
-    slice-read-if1
-    mul-if1-2
-    slice-read-if1-2
+    (λ c. search needs)
+    (λ c. search needs)
+    (λ c. search needs)
+    (λ c. search needs)
+    (λ c. search needs)
     sub-if1
     returns
-    add-base
-    add-base-2
-    add-next-free
-    mul-next-free
-    sub-next-free
-    part-next-free-start
-    part-next-free-end
+    (λ c. search needs)
+    (λ c. search needs)
+    (λ c. search needs)
+    (λ c. search needs)
+    (λ c. search needs)
+    (λ c. search needs)
+    (λ c. search needs)
     next-free-requires
-    add-result
-    same-length
+    (λ c. search needs)
+    (λ c. search needs)
     returns-2
-    put-single-requires
-    add-result-2
-    same-length-2
+    (λ c κs. search needs)
+    (λ c. search needs)
+    (λ c. search needs)
     returns-3)

@@ -7,14 +7,8 @@ use borrow.Author.Needs.{needs}
 use Rattle.filter.proofs.building.cells_for.Statement.{statement}
 use Rattle.filter.proofs.building.cells_for.Tie as tie
 
-of-requires : tie.Need-of-requires
-of-requires c κs = search needs
-
 enum-told : tie.Need-enum-told
 enum-told c = search needs
-
-enum-known-plan : tie.Need-enum-known-plan
-enum-known-plan c = search needs
 
 cells-requires : tie.Need-cells-requires
 cells-requires c κs =
@@ -34,9 +28,9 @@ pub cells-for-spec : {M : Type 1} → statement M
 cells-for-spec =
     tie.close
     (tie.spec
-    of-requires
+    (λ c κs. search needs)
     enum-told
-    enum-known-plan
+    (λ c. search needs)
     cells-requires
     returns
     returns-2)

@@ -14,9 +14,6 @@ enum-told c = search needs
 put-positive-requires : tie.Need-put-positive-requires
 put-positive-requires c κs = omega (arith, c .before .before .before .before .before .before .before .before .before .before .before .before .before .before .before .before .before .pre .out-room)
 
-enum-known-built : tie.Need-enum-known-built
-enum-known-built c = search needs
-
 put-header-requires : tie.Need-put-header-requires
 put-header-requires c κs =
     let a = c .before .before .before .before .before .before .before .before .before .before .before .before .before .before .before .before .before .before .args in
@@ -24,32 +21,11 @@ put-header-requires c κs =
     let m = c .before .before .before .before .before .before .before .before .before .before .make in
     (omega (arith, c .before .before .before .before .before .before .before .before .before .before .before .before .before .before .before .before .before .before .pre .out-room), lay-usable (a .hashes .now) (a .out .now) (m .last .1 .1 .1 .0) (m .result) (m .ensures) (b .0 .0) (b .1) (omega arith) .small)
 
-enum-told-2 : tie.Need-enum-told-2
-enum-told-2 c = search needs
-
-same-length : tie.Need-same-length
-same-length c = search needs
-
-same-length-2 : tie.Need-same-length-2
-same-length-2 c = search needs
-
-same-length-3 : tie.Need-same-length-3
-same-length-3 c = search needs
-
 returns : tie.Need-returns
 returns c =
     let a = c .before .before .before .before .before .before .before .before .before .before .before .before .before .before .before .before .before .before .before .before .args in
     let m = c .before .before .before .before .before .before .before .before .before .before .before .before .make in
     lay-positive (a .hashes .now) (a .out .now) (m .last .1 .1 .1 .0) (m .result) (m .ensures) (c .before .before .before .before .enum-told .given .1) _ (c .before .before .put-positive .ensures)
-
-same-length-4 : tie.Need-same-length-4
-same-length-4 c = search needs
-
-same-length-5 : tie.Need-same-length-5
-same-length-5 c = search needs
-
-same-length-6 : tie.Need-same-length-6
-same-length-6 c = search needs
 
 returns-2 : tie.Need-returns-2
 returns-2 c =
@@ -58,15 +34,6 @@ returns-2 c =
     let m = c .before .before .before .before .before .before .before .before .before .before .before .before .before .make in
     let b = c .before .before .before .before .before .built .given in
     lay-fuse (a .hashes .now) (a .out .now) (m .last .1 .1 .1 .0) (m .result) (m .ensures) (b .0 .0) (b .1) (omega arith) (s .pre .out-room) _ (c .before .before .put-header .ensures)
-
-same-length-7 : tie.Need-same-length-7
-same-length-7 c = search needs
-
-same-length-8 : tie.Need-same-length-8
-same-length-8 c = search needs
-
-same-length-9 : tie.Need-same-length-9
-same-length-9 c = search needs
 
 returns-3 : tie.Need-returns-3
 returns-3 c =
@@ -81,18 +48,18 @@ lay-spec =
     make-requires
     enum-told
     put-positive-requires
-    enum-known-built
+    (λ c. search needs)
     put-header-requires
-    enum-told-2
-    same-length
-    same-length-2
-    same-length-3
+    (λ c. search needs)
+    (λ c. search needs)
+    (λ c. search needs)
+    (λ c. search needs)
     returns
-    same-length-4
-    same-length-5
-    same-length-6
+    (λ c. search needs)
+    (λ c. search needs)
+    (λ c. search needs)
     returns-2
-    same-length-7
-    same-length-8
-    same-length-9
+    (λ c. search needs)
+    (λ c. search needs)
+    (λ c. search needs)
     returns-3)

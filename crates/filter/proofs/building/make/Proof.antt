@@ -6,26 +6,14 @@ use borrow.Author.Needs.{needs}
 use Rattle.filter.proofs.building.make.Statement.{statement}
 use Rattle.filter.proofs.building.make.Tie as tie
 
-has-twins-requires : tie.Need-has-twins-requires
-has-twins-requires c κs = search needs
-
 returns : tie.Need-returns
 returns c = let a = c .before .before .before .before .before .before .args in made-twins (a .hashes .now) (a .out .now) (sym (c .before .has-twins .ensures) ∙ c .if1 .taken)
-
-cells-for-requires : tie.Need-cells-for-requires
-cells-for-requires c κs = search needs
 
 add-end : tie.Need-add-end
 add-end c = omega (arith, c .cells-for .ensures, c .before .before .before .before .before .before .before .pre .out-room)
 
-of-requires : tie.Need-of-requires
-of-requires c κs = search needs
-
 enum-told : tie.Need-enum-told
 enum-told c = search needs
-
-enum-known-plan : tie.Need-enum-known-plan
-enum-known-plan c = search needs
 
 sub-construct : tie.Need-sub-construct
 sub-construct c = omega arith
@@ -46,15 +34,6 @@ construct-requires c κs =
 returns-2 : tie.Need-returns-2
 returns-2 c = let a = c .before .before .before .before .before .before .before .before .before .before .args in made-none (a .hashes .now) (a .out .now) (sym (c .before .before .of .ensures) ∙ c .enum-told .given .1)
 
-same-length : tie.Need-same-length
-same-length c = search needs
-
-same-length-2 : tie.Need-same-length-2
-same-length-2 c = search needs
-
-same-length-3 : tie.Need-same-length-3
-same-length-3 c = search needs
-
 returns-3 : tie.Need-returns-3
 returns-3 c =
     let a = c .before .before .before .before .before .before .before .before .before .before .before .before .before .before .before .before .before .before .before .before .before .args in
@@ -67,19 +46,19 @@ pub make-spec : {M : Type 1} → statement M
 make-spec =
     tie.close
     (tie.spec
-    has-twins-requires
+    (λ c κs. search needs)
     returns
-    cells-for-requires
+    (λ c κs. search needs)
     add-end
-    of-requires
+    (λ c κs. search needs)
     enum-told
-    enum-known-plan
+    (λ c. search needs)
     sub-construct
     part-construct-start
     part-construct-end
     construct-requires
     returns-2
-    same-length
-    same-length-2
-    same-length-3
+    (λ c. search needs)
+    (λ c. search needs)
+    (λ c. search needs)
     returns-3)

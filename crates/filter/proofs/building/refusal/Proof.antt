@@ -10,9 +10,6 @@ use Rattle.filter.proofs.building.refusal.Tie as tie
 returns : tie.Need-returns
 returns c = let a = c .before .args in refuse-many (a .n) (a .wide) (a .narrow) (a .out) (c .if1 .taken)
 
-cells-for-requires : tie.Need-cells-for-requires
-cells-for-requires c κs = search needs
-
 add-if2 : tie.Need-add-if2
 add-if2 c = let small : cellsFor (c .before .before .args .n) < 2 ^ 32 = cells-few (c .before .before .args .n) (omega arith) in omega (arith, c .cells-for .ensures)
 
@@ -50,7 +47,7 @@ refusal-spec =
     tie.close
     (tie.spec
     returns
-    cells-for-requires
+    (λ c κs. search needs)
     add-if2
     returns-2
     mul-if3

@@ -9,9 +9,6 @@ use Rattle.finish.specs.Body.{arenaStart}
 use Rattle.finish.proofs.body.arena_start.Statement.{statement}
 use Rattle.finish.proofs.body.arena_start.Tie as tie
 
-buckets-requires : tie.Need-buckets-requires
-buckets-requires c κs = search needs
-
 slot-at-requires : tie.Need-slot-at-requires
 slot-at-requires c κs =
     let few = few-buckets (c .before .args .n) in
@@ -23,4 +20,4 @@ unfolding arenaStart
 returns c = c .slot-at .ensures ∙ ap (λ (b : ℕ). slotAt b (c .before .before .args .n)) (c .before .buckets .ensures)
 
 pub arena-start-spec : {M : Type 1} → statement M
-arena-start-spec = tie.close (tie.spec buckets-requires slot-at-requires returns)
+arena-start-spec = tie.close (tie.spec (λ c κs. search needs) slot-at-requires returns)

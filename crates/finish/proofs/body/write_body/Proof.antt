@@ -9,9 +9,6 @@ use borrow.Author.Needs.{needs}
 use Rattle.finish.proofs.body.write_body.Statement.{statement}
 use Rattle.finish.proofs.body.write_body.Tie as tie
 
-buckets-requires : tie.Need-buckets-requires
-buckets-requires c κs = search needs
-
 add-pilots : tie.Need-add-pilots
 add-pilots c =
     let e = c .buckets .ensures in
@@ -39,9 +36,6 @@ add-end c =
     let words = R .words in
     omega arith
 
-list-places-requires : tie.Need-list-places-requires
-list-places-requires c κs = search needs
-
 mul-write-front : tie.Need-mul-write-front
 mul-write-front c =
     let e = c .before .before .before .before .before .buckets .ensures in
@@ -50,12 +44,6 @@ mul-write-front c =
     let most = R .most in
     let words = R .words in
     omega arith
-
-sub-write-front : tie.Need-sub-write-front
-sub-write-front c = search needs
-
-part-write-front-start : tie.Need-part-write-front-start
-part-write-front-start c = search needs
 
 part-write-front-end : tie.Need-part-write-front-end
 part-write-front-end c =
@@ -103,12 +91,6 @@ mul-write-slots-2 c =
     let words = R .words in
     omega arith
 
-sub-write-slots : tie.Need-sub-write-slots
-sub-write-slots c = search needs
-
-part-write-slots-start : tie.Need-part-write-slots-start
-part-write-slots-start c = search needs
-
 part-write-slots-end : tie.Need-part-write-slots-end
 part-write-slots-end c =
     let e = c .before .before .before .before .before .before .before .before .before .before .before .buckets .ensures in
@@ -124,9 +106,6 @@ write-slots-requires c κs =
     let b = c .before .before .before .before .before .before .before .before .before .before .before .before .buckets in
     slots-asked _ _ _ _ _ _ _ (c .before .before .before .before .before .before .before .before .before .before .list-places .last .1 .0) (c .before .before .before .before .before .write-front .last .0) (pre .0) (pre .1) (b .ensures) (c .before .before .before .before .before .before .before .before .before .before .list-places .kept .1 .0) (c .before .before .before .before .before .write-front .kept .0) _ (slots-part _ _ _ (b .ensures) _ _ refl refl)
 
-arena-start-requires : tie.Need-arena-start-requires
-arena-start-requires c κs = search needs
-
 copy-at-requires : tie.Need-copy-at-requires
 copy-at-requires c κs =
     let room = c .before .before .before .before .before .before .before .before .before .before .before .before .before .before .before .before .before .before .before .before .before .before .pre .0 .room in
@@ -134,12 +113,6 @@ copy-at-requires c κs =
     let k = c .before .before .before .before .write-slots .kept .0 in
     let j = c .before .before .before .before .before .before .before .before .before .before .write-front .kept .0 in
     omega arith
-
-same-length : tie.Need-same-length
-same-length c = search needs
-
-same-length-2 : tie.Need-same-length-2
-same-length-2 c = search needs
 
 returns : tie.Need-returns
 returns c =
@@ -151,25 +124,25 @@ pub write-body-spec : {M : Type 1} → statement M
 write-body-spec =
     tie.close
     (tie.spec
-    buckets-requires
+    (λ c κs. search needs)
     add-pilots
     add-slots
     add-end
-    list-places-requires
+    (λ c κs. search needs)
     mul-write-front
-    sub-write-front
-    part-write-front-start
+    (λ c. search needs)
+    (λ c. search needs)
     part-write-front-end
     write-front-requires
     mul-write-slots
     add-write-slots
     mul-write-slots-2
-    sub-write-slots
-    part-write-slots-start
+    (λ c. search needs)
+    (λ c. search needs)
     part-write-slots-end
     write-slots-requires
-    arena-start-requires
+    (λ c κs. search needs)
     copy-at-requires
-    same-length
-    same-length-2
+    (λ c. search needs)
+    (λ c. search needs)
     returns)

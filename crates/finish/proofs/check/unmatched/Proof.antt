@@ -11,18 +11,6 @@ returns c = unmatched-free _ _ _ _ _ (c .if1 .taken)
 returns-2 : tie.Need-returns-2
 returns-2 c = unmatched-past _ _ _ _ _ (λ z. omega arith) (c .if2 .taken)
 
-sub-index : tie.Need-sub-index
-sub-index c = search needs
-
-mul-index : tie.Need-mul-index
-mul-index c = search needs
-
-shared-slice-read-index : tie.Need-shared-slice-read-index
-shared-slice-read-index c = search needs
-
-index-requires : tie.Need-index-requires
-index-requires c κs = search needs
-
 returns-3 : tie.Need-returns-3
 returns-3 c = unmatched-by _ _ _ _ _ (λ z. omega arith) (omega arith) _ (c .index .ensures)
 
@@ -32,8 +20,8 @@ unmatched-spec =
     (tie.spec
     returns
     returns-2
-    sub-index
-    mul-index
-    shared-slice-read-index
-    index-requires
+    (λ c. search needs)
+    (λ c. search needs)
+    (λ c. search needs)
+    (λ c κs. search needs)
     returns-3)

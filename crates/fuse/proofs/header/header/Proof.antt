@@ -9,16 +9,10 @@ use borrow.Author.Needs.{needs}
 use Rattle.fuse.proofs.header.header.Statement.{statement}
 use Rattle.fuse.proofs.header.header.Tie as tie
 
-slice-aggregate-put-header : tie.Need-slice-aggregate-put-header
-slice-aggregate-put-header c = search needs
-
-put-header-requires : tie.Need-put-header-requires
-put-header-requires c κs = search needs
-
 returns : tie.Need-returns
 returns c =
     let s = c .before .before .before .args .s in
     c .before .put-header .ensures ∙ splice-whole (replicate 48 0) (headerOf s) (header-length s)
 
 pub header-spec : {M : Type 1} → statement M
-header-spec = tie.close (tie.spec slice-aggregate-put-header put-header-requires returns)
+header-spec = tie.close (tie.spec (λ c. search needs) (λ c κs. search needs) returns)

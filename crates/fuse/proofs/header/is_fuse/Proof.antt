@@ -14,12 +14,6 @@ use borrow.Author.Needs.{needs}
 use Rattle.fuse.proofs.header.is_fuse.Statement.{statement}
 use Rattle.fuse.proofs.header.is_fuse.Tie as tie
 
-sub-fits : tie.Need-sub-fits
-sub-fits c = search needs
-
-fits-requires : tie.Need-fits-requires
-fits-requires c κs = search needs
-
 header-requires : tie.Need-header-requires
 header-requires c κs =
     let a = c .before .before .before .args in
@@ -27,12 +21,6 @@ header-requires c κs =
 
 slice-aggregate-same : tie.Need-slice-aggregate-same
 slice-aggregate-same c = sym (length-take-le 48 (c .before .before .before .before .before .args .bytes .now) (omega arith))
-
-slice-aggregate-same-2 : tie.Need-slice-aggregate-same-2
-slice-aggregate-same-2 c = search needs
-
-same-requires : tie.Need-same-requires
-same-requires c κs = search needs
 
 returns : tie.Need-returns
 unfolding fuseLaid
@@ -52,11 +40,11 @@ pub is-fuse-spec : {M : Type 1} → statement M
 is-fuse-spec =
     tie.close
     (tie.spec
-    sub-fits
-    fits-requires
+    (λ c. search needs)
+    (λ c κs. search needs)
     header-requires
     slice-aggregate-same
-    slice-aggregate-same-2
-    same-requires
+    (λ c. search needs)
+    (λ c κs. search needs)
     returns
     returns-2)

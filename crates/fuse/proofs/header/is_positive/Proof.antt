@@ -5,15 +5,9 @@ use borrow.Author.Needs.{needs}
 use Rattle.fuse.proofs.header.is_positive.Statement.{statement}
 use Rattle.fuse.proofs.header.is_positive.Tie as tie
 
-slice-aggregate-same : tie.Need-slice-aggregate-same
-slice-aggregate-same c = search needs
-
-same-requires : tie.Need-same-requires
-same-requires c κs = search needs
-
 returns : tie.Need-returns
 unfolding positiveBytes
 returns c = c .same .ensures
 
 pub is-positive-spec : {M : Type 1} → statement M
-is-positive-spec = tie.close (tie.spec slice-aggregate-same same-requires returns)
+is-positive-spec = tie.close (tie.spec (λ c. search needs) (λ c κs. search needs) returns)

@@ -5,18 +5,6 @@ use borrow.Author.Needs.{needs}
 use Rattle.fuse.proofs.header.sizes_at.Statement.{statement}
 use Rattle.fuse.proofs.header.sizes_at.Tie as tie
 
-u64-at-requires : tie.Need-u64-at-requires
-u64-at-requires c κs = search needs
-
-u64-at-requires-2 : tie.Need-u64-at-requires-2
-u64-at-requires-2 c κs = search needs
-
-u32-at-requires : tie.Need-u32-at-requires
-u32-at-requires c κs = search needs
-
-u32-at-requires-2 : tie.Need-u32-at-requires-2
-u32-at-requires-2 c κs = search needs
-
 returns : tie.Need-returns
 unfolding sizesIn
 returns c =
@@ -30,4 +18,4 @@ returns c =
 pub sizes-at-spec : {M : Type 1} → statement M
 sizes-at-spec =
     tie.close
-    (tie.spec u64-at-requires u64-at-requires-2 u32-at-requires u32-at-requires-2 returns)
+    (tie.spec (λ c κs. search needs) (λ c κs. search needs) (λ c κs. search needs) (λ c κs. search needs) returns)

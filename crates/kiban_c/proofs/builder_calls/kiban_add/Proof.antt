@@ -21,12 +21,6 @@ returns-2 c =
     let a = c .before .before .before .before .before .before .args in
     add-refused (add-stateless (a .state .now) (a .kind) (a .answer .now) (c .before .if1 .left) (c .if2 .taken)) (omega arith)
 
-from-byte-requires : tie.Need-from-byte-requires
-from-byte-requires c κs = search needs
-
-enum-known-known : tie.Need-enum-known-known
-enum-known-known c = search needs
-
 enum-told : tie.Need-enum-told
 enum-told c = search needs
 
@@ -35,39 +29,6 @@ returns-3 c =
     let a = c .before .before .before .before .before .before .before .before .before .args in
     let k = kind-unknown (a .kind) (sym (c .before .before .from-byte .ensures) ∙ c .enum-told .given .1) in
     add-refused (add-kindless (a .state .now) (a .kind) (a .answer .now) (c .before .before .before .before .if1 .left) (c .before .before .before .if2 .left) k) (omega arith)
-
-state-of-requires : tie.Need-state-of-requires
-state-of-requires c κs = search needs
-
-add-requires : tie.Need-add-requires
-add-requires c κs = search needs
-
-enum-known-next : tie.Need-enum-known-next
-enum-known-next c = search needs
-
-slice-aggregate-put-words : tie.Need-slice-aggregate-put-words
-slice-aggregate-put-words c = search needs
-
-put-words-requires : tie.Need-put-words-requires
-put-words-requires c κs = search needs
-
-slice-write-answer : tie.Need-slice-write-answer
-slice-write-answer c = search needs
-
-enum-known-n : tie.Need-enum-known-n
-enum-known-n c = search needs
-
-cast-result : tie.Need-cast-result
-cast-result c = search needs
-
-same-length : tie.Need-same-length
-same-length c = search needs
-
-same-length-2 : tie.Need-same-length-2
-same-length-2 c = search needs
-
-same-length-3 : tie.Need-same-length-3
-same-length-3 c = search needs
 
 returns-4 : tie.Need-returns-4
 returns-4 c =
@@ -78,12 +39,6 @@ returns-4 c =
     let n = c .before .before .before .before .before .before .next .given in
     add-made {r = Taken (n .0 .0) (n .0 .1 .0)} (add-passed (a .state .now) (a .kind) (a .answer .now) some (c .before .before .before .before .before .before .before .before .before .before .before .before .before .before .before .before .before .before .if2 .left) (k .0)) (c .before .before .before .before .before .before .before .before .before .before .before .before .state-of .ensures) (sym (k .1)) (c .before .before .before .before .before .before .before .before .before .before .add .ensures) (n .1) (c .before .before .put-words .ensures)
     (splice-sets (a .answer .now) 0 (addedValues (Taken (n .0 .0) (n .0 .1 .0))) (omega arith))
-
-same-length-4 : tie.Need-same-length-4
-same-length-4 c = search needs
-
-same-length-5 : tie.Need-same-length-5
-same-length-5 c = search needs
 
 returns-5 : tie.Need-returns-5
 returns-5 c =
@@ -99,22 +54,22 @@ kiban-add-spec =
     (tie.spec
     returns
     returns-2
-    from-byte-requires
-    enum-known-known
+    (λ c κs. search needs)
+    (λ c. search needs)
     enum-told
     returns-3
-    state-of-requires
-    add-requires
-    enum-known-next
-    slice-aggregate-put-words
-    put-words-requires
-    slice-write-answer
-    enum-known-n
-    cast-result
-    same-length
-    same-length-2
-    same-length-3
+    (λ c κs. search needs)
+    (λ c κs. search needs)
+    (λ c. search needs)
+    (λ c. search needs)
+    (λ c κs. search needs)
+    (λ c. search needs)
+    (λ c. search needs)
+    (λ c. search needs)
+    (λ c. search needs)
+    (λ c. search needs)
+    (λ c. search needs)
     returns-4
-    same-length-4
-    same-length-5
+    (λ c. search needs)
+    (λ c. search needs)
     returns-5)

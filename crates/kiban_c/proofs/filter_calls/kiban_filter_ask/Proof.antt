@@ -5,17 +5,8 @@ use borrow.Author.Needs.{needs}
 use Rattle.kiban_c.proofs.filter_calls.kiban_filter_ask.Statement.{statement}
 use Rattle.kiban_c.proofs.filter_calls.kiban_filter_ask.Tie as tie
 
-ask-requires : tie.Need-ask-requires
-ask-requires c κs = search needs
-
-number-requires : tie.Need-number-requires
-number-requires c κs = search needs
-
-cast-result : tie.Need-cast-result
-cast-result c = search needs
-
 returns : tie.Need-returns
 returns c = c .number .ensures ∙ ap askNumber (c .before .ask .ensures)
 
 pub kiban-filter-ask-spec : {M : Type 1} → statement M
-kiban-filter-ask-spec = tie.close (tie.spec ask-requires number-requires cast-result returns)
+kiban-filter-ask-spec = tie.close (tie.spec (λ c κs. search needs) (λ c κs. search needs) (λ c. search needs) returns)

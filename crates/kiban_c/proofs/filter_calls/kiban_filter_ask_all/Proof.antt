@@ -15,23 +15,11 @@ use Rattle.kiban_c.proofs.filter_calls.kiban_filter_ask_all.Tie as tie
 returns : tie.Need-returns
 returns c = all-refused (c .if1 .taken)
 
-read-requires : tie.Need-read-requires
-read-requires c κs = search needs
-
 enum-told : tie.Need-enum-told
 enum-told c = search needs
 
-slice-relend-prefix-fill : tie.Need-slice-relend-prefix-fill
-slice-relend-prefix-fill c = search needs
-
 slice-aggregate-fill : tie.Need-slice-aggregate-fill
 slice-aggregate-fill c = sym (length-take-le _ _ (c .before .before .before .before .if1 .left))
-
-fill-requires : tie.Need-fill-requires
-fill-requires c κs = search needs
-
-enum-known-s : tie.Need-enum-known-s
-enum-known-s c = search needs
 
 sub-ask-each : tie.Need-sub-ask-each
 sub-ask-each c =
@@ -43,23 +31,8 @@ part-ask-each-start c =
     let z = c .before .s .given in
     omega (arith, fuse-cells (c .before .before .before .before .before .before .before .before .args .bytes .now) (z .0 .0) (sym (c .before .before .before .read .ensures) ∙ z .1) .0)
 
-part-ask-each-end : tie.Need-part-ask-each-end
-part-ask-each-end c = search needs
-
-ask-each-requires : tie.Need-ask-each-requires
-ask-each-requires c κs = search needs
-
-enum-told-2 : tie.Need-enum-told-2
-enum-told-2 c = search needs
-
-same-length : tie.Need-same-length
-same-length c = search needs
-
 returns-2 : tie.Need-returns-2
 returns-2 c = all-positive (c .before .before .before .before .before .before .before .if1 .left) _ (sym (c .before .before .before .before .before .before .read .ensures) ∙ c .before .before .before .before .enum-told .given .1) (c .before .before .fill .ensures)
-
-same-length-2 : tie.Need-same-length-2
-same-length-2 c = search needs
 
 returns-3 : tie.Need-returns-3
 returns-3 c =
@@ -77,19 +50,19 @@ kiban-filter-ask-all-spec =
     tie.close
     (tie.spec
     returns
-    read-requires
+    (λ c κs. search needs)
     enum-told
-    slice-relend-prefix-fill
+    (λ c. search needs)
     slice-aggregate-fill
-    fill-requires
-    enum-known-s
+    (λ c κs. search needs)
+    (λ c. search needs)
     sub-ask-each
     part-ask-each-start
-    part-ask-each-end
-    ask-each-requires
-    enum-told-2
-    same-length
+    (λ c. search needs)
+    (λ c κs. search needs)
+    (λ c. search needs)
+    (λ c. search needs)
     returns-2
-    same-length-2
+    (λ c. search needs)
     returns-3
     returns-4)

@@ -14,49 +14,16 @@ use Rattle.kiban_c.proofs.filter_calls.kiban_filter_read.Tie as tie
 returns : tie.Need-returns
 returns c = read-refused (c .if1 .taken)
 
-read-requires : tie.Need-read-requires
-read-requires c κs = search needs
-
 enum-told : tie.Need-enum-told
 enum-told c = search needs
-
-slice-aggregate-put-words : tie.Need-slice-aggregate-put-words
-slice-aggregate-put-words c = search needs
-
-put-words-requires : tie.Need-put-words-requires
-put-words-requires c κs = search needs
-
-enum-known-s : tie.Need-enum-known-s
-enum-known-s c = search needs
 
 sub-cells : tie.Need-sub-cells
 sub-cells c =
     let z = c .before .s .given in
     omega (arith, fuse-cells (c .before .before .before .before .before .before .before .args .bytes .now) (z .0 .0) (sym (c .before .before .before .read .ensures) ∙ z .1) .0)
 
-cast-t18 : tie.Need-cast-t18
-cast-t18 c = search needs
-
-cast-t19 : tie.Need-cast-t19
-cast-t19 c = search needs
-
-slice-aggregate-put-words-2 : tie.Need-slice-aggregate-put-words-2
-slice-aggregate-put-words-2 c = search needs
-
-put-words-requires-2 : tie.Need-put-words-requires-2
-put-words-requires-2 c κs = search needs
-
-enum-told-2 : tie.Need-enum-told-2
-enum-told-2 c = search needs
-
-same-length : tie.Need-same-length
-same-length c = search needs
-
 returns-2 : tie.Need-returns-2
 returns-2 c = read-made {r = Positive} (c .before .before .before .before .before .before .before .before .if1 .left) (c .before .before .before .before .before .before .before .read .ensures) (c .before .before .before .before .before .enum-told .given .1) (c .before .before .put-words .ensures)
-
-same-length-2 : tie.Need-same-length-2
-same-length-2 c = search needs
 
 returns-3 : tie.Need-returns-3
 returns-3 c =
@@ -75,19 +42,19 @@ kiban-filter-read-spec =
     tie.close
     (tie.spec
     returns
-    read-requires
+    (λ c κs. search needs)
     enum-told
-    slice-aggregate-put-words
-    put-words-requires
-    enum-known-s
+    (λ c. search needs)
+    (λ c κs. search needs)
+    (λ c. search needs)
     sub-cells
-    cast-t18
-    cast-t19
-    slice-aggregate-put-words-2
-    put-words-requires-2
-    enum-told-2
-    same-length
+    (λ c. search needs)
+    (λ c. search needs)
+    (λ c. search needs)
+    (λ c κs. search needs)
+    (λ c. search needs)
+    (λ c. search needs)
     returns-2
-    same-length-2
+    (λ c. search needs)
     returns-3
     returns-4)

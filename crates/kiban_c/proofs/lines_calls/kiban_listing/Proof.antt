@@ -13,35 +13,11 @@ use Rattle.kiban_c.proofs.lines_calls.kiban_listing.Tie as tie
 returns : tie.Need-returns
 returns c = listing-refused (c .if1 .taken)
 
-listing-requires : tie.Need-listing-requires
-listing-requires c κs = search needs
-
-enum-known-size : tie.Need-enum-known-size
-enum-known-size c = search needs
-
-slice-write-answer : tie.Need-slice-write-answer
-slice-write-answer c = search needs
-
-enum-known-n : tie.Need-enum-known-n
-enum-known-n c = search needs
-
-cast-result : tie.Need-cast-result
-cast-result c = search needs
-
-same-length : tie.Need-same-length
-same-length c = search needs
-
-same-length-2 : tie.Need-same-length-2
-same-length-2 c = search needs
-
 returns-2 : tie.Need-returns-2
 returns-2 c =
     let some = c .before .before .before .before .before .before .before .if1 .left in
     let z = c .before .size .given in
     listing-made {r = Text (z .0 .0)} some (c .before .before .before .before .before .listing .ensures) (z .1) (splice-sets (c .before .before .before .before .before .before .before .before .before .before .before .args .answer .now) 0 (listedValues (Text (z .0 .0))) (omega arith))
-
-same-length-3 : tie.Need-same-length-3
-same-length-3 c = search needs
 
 returns-3 : tie.Need-returns-3
 returns-3 c =
@@ -53,13 +29,13 @@ kiban-listing-spec =
     tie.close
     (tie.spec
     returns
-    listing-requires
-    enum-known-size
-    slice-write-answer
-    enum-known-n
-    cast-result
-    same-length
-    same-length-2
+    (λ c κs. search needs)
+    (λ c. search needs)
+    (λ c. search needs)
+    (λ c. search needs)
+    (λ c. search needs)
+    (λ c. search needs)
+    (λ c. search needs)
     returns-2
-    same-length-3
+    (λ c. search needs)
     returns-3)

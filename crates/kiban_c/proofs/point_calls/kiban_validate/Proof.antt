@@ -5,17 +5,8 @@ use borrow.Author.Needs.{needs}
 use Rattle.kiban_c.proofs.point_calls.kiban_validate.Statement.{statement}
 use Rattle.kiban_c.proofs.point_calls.kiban_validate.Tie as tie
 
-validate-requires : tie.Need-validate-requires
-validate-requires c κs = search needs
-
 enum-told : tie.Need-enum-told
 enum-told c = search needs
-
-enum-known-n : tie.Need-enum-known-n
-enum-known-n c = search needs
-
-cast-result : tie.Need-cast-result
-cast-result c = search needs
 
 returns : tie.Need-returns
 returns c = sym (ap refusalNumber (sym (c .before .before .validate .ensures) ∙ c .enum-told .given .1))
@@ -25,4 +16,4 @@ returns-2 c = sym (ap refusalNumber (sym (c .before .before .before .validate .e
 
 pub kiban-validate-spec : {M : Type 1} → statement M
 kiban-validate-spec =
-    tie.close (tie.spec validate-requires enum-told enum-known-n cast-result returns returns-2)
+    tie.close (tie.spec (λ c κs. search needs) enum-told (λ c. search needs) (λ c. search needs) returns returns-2)

@@ -9,12 +9,9 @@ returns : tie.Need-returns
 unfolding bucketsOf
 returns c = omega arith
 
-add-result : tie.Need-add-result
-add-result c = search needs
-
 returns-2 : tie.Need-returns-2
 unfolding bucketsOf
 returns-2 c = omega arith
 
 pub buckets-spec : {M : Type 1} → statement M
-buckets-spec = tie.close (tie.spec returns add-result returns-2)
+buckets-spec = tie.close (tie.spec returns (λ c. search needs) returns-2)

@@ -6,19 +6,13 @@ use Rattle.mixing.specs.Slots.{direct, slotBy}
 use Rattle.mixing.proofs.slot.slot_by.Statement.{statement}
 use Rattle.mixing.proofs.slot.slot_by.Tie as tie
 
-position-requires : tie.Need-position-requires
-position-requires c κs = search needs
-
 returns : tie.Need-returns
 unfolding slotBy direct
 returns c = c .position .ensures ∙ sym (simp (lt-ltb _ _ (c .before .if1 .taken)))
-
-cast-result : tie.Need-cast-result
-cast-result c = search needs
 
 returns-2 : tie.Need-returns-2
 unfolding slotBy direct
 returns-2 c = sym (simp (le-ltb _ _ (c .if1 .left)))
 
 pub slot-by-spec : {M : Type 1} → statement M
-slot-by-spec = tie.close (tie.spec position-requires returns cast-result returns-2)
+slot-by-spec = tie.close (tie.spec (λ c κs. search needs) returns (λ c. search needs) returns-2)

@@ -8,41 +8,11 @@ use Rattle.records.proofs.cursor.head_at.Tie as tie
 returns : tie.Need-returns
 returns c = head-short _ _ (omega arith)
 
-sub-if2 : tie.Need-sub-if2
-sub-if2 c = search needs
-
 returns-2 : tie.Need-returns-2
 returns-2 c = head-short _ _ (omega arith)
 
-add-key : tie.Need-add-key
-add-key c = search needs
-
-u32-at-requires : tie.Need-u32-at-requires
-u32-at-requires c κs = search needs
-
-cast-length : tie.Need-cast-length
-cast-length c = search needs
-
-sub-if3 : tie.Need-sub-if3
-sub-if3 c = search needs
-
 returns-3 : tie.Need-returns-3
 returns-3 c = head-cut _ _ (omega arith) (omega arith)
-
-add-u32-at : tie.Need-add-u32-at
-add-u32-at c = search needs
-
-u32-at-requires-2 : tie.Need-u32-at-requires-2
-u32-at-requires-2 c κs = search needs
-
-add-first : tie.Need-add-first
-add-first c = search needs
-
-cast-next : tie.Need-cast-next
-cast-next c = search needs
-
-mul-next : tie.Need-mul-next
-mul-next c = search needs
 
 add-next : tie.Need-add-next
 add-next c = omega (arith, c .before .before .before .before .before .before .good .0 .1)
@@ -55,17 +25,17 @@ head-at-spec =
     tie.close
     (tie.spec
     returns
-    sub-if2
+    (λ c. search needs)
     returns-2
-    add-key
-    u32-at-requires
-    cast-length
-    sub-if3
+    (λ c. search needs)
+    (λ c κs. search needs)
+    (λ c. search needs)
+    (λ c. search needs)
     returns-3
-    add-u32-at
-    u32-at-requires-2
-    add-first
-    cast-next
-    mul-next
+    (λ c. search needs)
+    (λ c κs. search needs)
+    (λ c. search needs)
+    (λ c. search needs)
+    (λ c. search needs)
     add-next
     returns-4)

@@ -7,15 +7,6 @@ use Rattle.records.specs.Places.{keyLength, keyAt}
 use Rattle.records.proofs.cursor.key_at.Statement.{statement}
 use Rattle.records.proofs.cursor.key_at.Tie as tie
 
-add-from : tie.Need-add-from
-add-from c = search needs
-
-u32-at-requires : tie.Need-u32-at-requires
-u32-at-requires c κs = search needs
-
-cast-to : tie.Need-cast-to
-cast-to c = search needs
-
 add-to : tie.Need-add-to
 add-to c = omega arith
 
@@ -39,9 +30,9 @@ pub key-at-spec : {M : Type 1} → statement M
 key-at-spec =
     tie.close
     (tie.spec
-    add-from
-    u32-at-requires
-    cast-to
+    (λ c. search needs)
+    (λ c κs. search needs)
+    (λ c. search needs)
     add-to
     sub-result
     part-result-start

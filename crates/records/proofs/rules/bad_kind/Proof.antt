@@ -5,14 +5,8 @@ use borrow.Author.Needs.{needs}
 use Rattle.records.proofs.rules.bad_kind.Statement.{statement}
 use Rattle.records.proofs.rules.bad_kind.Tie as tie
 
-from-byte-requires : tie.Need-from-byte-requires
-from-byte-requires c κs = search needs
-
 enum-told : tie.Need-enum-told
 enum-told c = search needs
-
-enum-told-2 : tie.Need-enum-told-2
-enum-told-2 c = search needs
 
 returns : tie.Need-returns
 returns c = sym (kind-known (c .before .before .before .args .b) _ (sym (c .before .before .from-byte .ensures) ∙ c .enum-told .given .1) .0)
@@ -21,4 +15,4 @@ returns-2 : tie.Need-returns-2
 returns-2 c = sym (kind-unknown (c .before .before .before .args .b) (sym (c .before .before .from-byte .ensures) ∙ c .enum-told2 .given .1))
 
 pub bad-kind-spec : {M : Type 1} → statement M
-bad-kind-spec = tie.close (tie.spec from-byte-requires enum-told enum-told-2 returns returns-2)
+bad-kind-spec = tie.close (tie.spec (λ c κs. search needs) enum-told (λ c. search needs) returns returns-2)

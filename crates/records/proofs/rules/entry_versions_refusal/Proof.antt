@@ -6,27 +6,6 @@ use Rattle.records.specs.Rules.{versionsRefusal}
 use Rattle.records.proofs.rules.entry_versions_refusal.Statement.{statement}
 use Rattle.records.proofs.rules.entry_versions_refusal.Tie as tie
 
-add-first : tie.Need-add-first
-add-first c = search needs
-
-u32-at-requires : tie.Need-u32-at-requires
-u32-at-requires c κs = search needs
-
-cast-first : tie.Need-cast-first
-cast-first c = search needs
-
-add-first-2 : tie.Need-add-first-2
-add-first-2 c = search needs
-
-add-u32-at : tie.Need-add-u32-at
-add-u32-at c = search needs
-
-u32-at-requires-2 : tie.Need-u32-at-requires-2
-u32-at-requires-2 c κs = search needs
-
-versions-refusal-requires : tie.Need-versions-refusal-requires
-versions-refusal-requires c κs = search needs
-
 returns : tie.Need-returns
 returns c =
     let a = c .before .before .before .before .args in
@@ -37,11 +16,11 @@ pub entry-versions-refusal-spec : {M : Type 1} → statement M
 entry-versions-refusal-spec =
     tie.close
     (tie.spec
-    add-first
-    u32-at-requires
-    cast-first
-    add-first-2
-    add-u32-at
-    u32-at-requires-2
-    versions-refusal-requires
+    (λ c. search needs)
+    (λ c κs. search needs)
+    (λ c. search needs)
+    (λ c. search needs)
+    (λ c. search needs)
+    (λ c κs. search needs)
+    (λ c κs. search needs)
     returns)

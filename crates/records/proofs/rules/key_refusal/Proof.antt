@@ -11,41 +11,20 @@ use borrow.Author.Needs.{needs}
 use Rattle.records.proofs.rules.key_refusal.Statement.{statement}
 use Rattle.records.proofs.rules.key_refusal.Tie as tie
 
-sub-if1 : tie.Need-sub-if1
-sub-if1 c = search needs
-
 returns : tie.Need-returns
 returns c =
     let a = c .before .before .args in
     key-short (a .bytes .now) (a .prev) (a .p) (omega arith)
-
-u32-at-requires : tie.Need-u32-at-requires
-u32-at-requires c κs = search needs
 
 returns-2 : tie.Need-returns-2
 returns-2 c =
     let a = c .before .before .before .before .args in
     key-long (a .bytes .now) (a .prev) (a .p) (omega arith) (omega arith)
 
-sub-if3 : tie.Need-sub-if3
-sub-if3 c = search needs
-
-sub-if3-2 : tie.Need-sub-if3-2
-sub-if3-2 c = search needs
-
-cast-if3 : tie.Need-cast-if3
-cast-if3 c = search needs
-
 returns-3 : tie.Need-returns-3
 returns-3 c =
     let a = c .before .before .before .before .before .args in
     key-out (a .bytes .now) (a .prev) (a .p) (omega arith) (omega arith) (omega arith)
-
-add-u32-at : tie.Need-add-u32-at
-add-u32-at c = search needs
-
-u32-at-requires-2 : tie.Need-u32-at-requires-2
-u32-at-requires-2 c κs = search needs
 
 returns-4 : tie.Need-returns-4
 returns-4 c =
@@ -72,16 +51,16 @@ pub key-refusal-spec : {M : Type 1} → statement M
 key-refusal-spec =
     tie.close
     (tie.spec
-    sub-if1
+    (λ c. search needs)
     returns
-    u32-at-requires
+    (λ c κs. search needs)
     returns-2
-    sub-if3
-    sub-if3-2
-    cast-if3
+    (λ c. search needs)
+    (λ c. search needs)
+    (λ c. search needs)
     returns-3
-    add-u32-at
-    u32-at-requires-2
+    (λ c. search needs)
+    (λ c κs. search needs)
     returns-4
     key-rises-requires
     returns-5

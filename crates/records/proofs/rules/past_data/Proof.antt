@@ -13,9 +13,6 @@ use Rattle.records.proofs.rules.past_data.Tie as tie
 enum-told : tie.Need-enum-told
 enum-told c = search needs
 
-enum-known-test : tie.Need-enum-known-test
-enum-known-test c = search needs
-
 returns : tie.Need-returns
 returns c = sym (ap (λ (t : DataLength). pastData t (c .before .before .before .before .args .offset) (c .before .before .before .before .args .size)) (c .before .before .test .given .1) ∙ lt-ltb (c .before .before .test .given .0 .0) (c .before .before .before .before .args .offset + c .before .before .before .before .args .size) (omega arith))
 
@@ -26,4 +23,4 @@ returns-3 : tie.Need-returns-3
 returns-3 c = sym (ap (λ (t : DataLength). pastData t (c .before .before .before .before .args .offset) (c .before .before .before .before .args .size)) (c .before .before .test .given .1) ∙ ltb-less (c .before .before .test .given .0 .0) (c .before .before .before .before .args .offset) (c .before .before .before .before .args .size) (omega arith))
 
 pub past-data-spec : {M : Type 1} → statement M
-past-data-spec = tie.close (tie.spec enum-told enum-known-test returns returns-2 returns-3)
+past-data-spec = tie.close (tie.spec enum-told (λ c. search needs) returns returns-2 returns-3)

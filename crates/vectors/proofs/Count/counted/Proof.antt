@@ -3,18 +3,12 @@ use borrow.Author.Needs.{needs}
 use Rattle.vectors.proofs.Count.counted.Statement.{statement}
 use Rattle.vectors.proofs.Count.counted.Tie as tie
 
-wrapping-add-u64-requires : tie.Need-wrapping-add-u64-requires
-wrapping-add-u64-requires c κs = search needs
-
 returns : tie.Need-returns
 returns c = rw (c .before .wrapping-add-u64 .ensures, c .if1 .taken)
-
-wrapping-add-u64-requires-2 : tie.Need-wrapping-add-u64-requires-2
-wrapping-add-u64-requires-2 c κs = search needs
 
 returns-2 : tie.Need-returns-2
 returns-2 c = rw (c .before .before .wrapping-add-u64 .ensures, c .wrapping-add-u642 .ensures, c .before .if1 .left)
 
 pub counted-spec : {M : Type 1} → statement M
 counted-spec =
-    tie.close (tie.spec wrapping-add-u64-requires returns wrapping-add-u64-requires-2 returns-2)
+    tie.close (tie.spec (λ c κs. search needs) returns (λ c κs. search needs) returns-2)

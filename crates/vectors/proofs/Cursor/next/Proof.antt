@@ -14,29 +14,11 @@ returns c = simp (eq-eqb _ _ (c .before .if1 .taken), eq-eqb _ _ (c .if2 .taken)
 returns-2 : tie.Need-returns-2
 returns-2 c = simp (eq-eqb _ _ (c .before .if1 .taken), ne-eqb _ _ (c .if2 .left))
 
-room-requires : tie.Need-room-requires
-room-requires c κs = search needs
-
 returns-3 : tie.Need-returns-3
 returns-3 c =
     let s = c .before .before .before .before .args in
     let h : length (s .file .now) < s .self .at + 5 = omega arith in
     simp (ne-eqb _ _ (c .before .before .if1 .left), lt-leb _ _ h)
-
-add-u32-at : tie.Need-add-u32-at
-add-u32-at c = search needs
-
-u32-at-requires : tie.Need-u32-at-requires
-u32-at-requires c κs = search needs
-
-cast-size : tie.Need-cast-size
-cast-size c = search needs
-
-add-room : tie.Need-add-room
-add-room c = search needs
-
-room-requires-2 : tie.Need-room-requires-2
-room-requires-2 c κs = search needs
 
 returns-4 : tie.Need-returns-4
 returns-4 c =
@@ -44,21 +26,6 @@ returns-4 c =
     let h : s .self .at + 5 ≤ length (s .file .now) = omega arith in
     let k : length (s .file .now) < s .self .at + 5 + le 4 (s .file .now) (s .self .at + 1) = omega arith in
     simp (ne-eqb _ _ (c .before .before .before .before .before .if1 .left), le-leb _ _ h, lt-leb _ _ k)
-
-shared-slice-read-t13 : tie.Need-shared-slice-read-t13
-shared-slice-read-t13 c = search needs
-
-add-t9 : tie.Need-add-t9
-add-t9 c = search needs
-
-add-t11 : tie.Need-add-t11
-add-t11 c = search needs
-
-add-t14 : tie.Need-add-t14
-add-t14 c = search needs
-
-sub-t10 : tie.Need-sub-t10
-sub-t10 c = search needs
 
 returns-5 : tie.Need-returns-5
 returns-5 c =
@@ -73,17 +40,17 @@ next-spec =
     (tie.spec
     returns
     returns-2
-    room-requires
+    (λ c κs. search needs)
     returns-3
-    add-u32-at
-    u32-at-requires
-    cast-size
-    add-room
-    room-requires-2
+    (λ c. search needs)
+    (λ c κs. search needs)
+    (λ c. search needs)
+    (λ c. search needs)
+    (λ c κs. search needs)
     returns-4
-    shared-slice-read-t13
-    add-t9
-    add-t11
-    add-t14
-    sub-t10
+    (λ c. search needs)
+    (λ c. search needs)
+    (λ c. search needs)
+    (λ c. search needs)
+    (λ c. search needs)
     returns-5)

@@ -6,14 +6,8 @@ use Rattle.words.proofs.Laws.{splice-sets}
 use Rattle.words.proofs.field.put_u8.Statement.{statement}
 use Rattle.words.proofs.field.put_u8.Tie as tie
 
-slice-write-raw : tie.Need-slice-write-raw
-slice-write-raw c = search needs
-
-same-length : tie.Need-same-length
-same-length c = search needs
-
 returns : tie.Need-returns
 returns c = splice-sets (c .args .raw .now) (c .args .at) (c .args .v ∷ []) (omega arith)
 
 pub put-u8-spec : {M : Type 1} → statement M
-put-u8-spec = tie.close (tie.spec slice-write-raw same-length returns)
+put-u8-spec = tie.close (tie.spec (λ c. search needs) (λ c. search needs) returns)

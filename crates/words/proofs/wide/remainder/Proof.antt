@@ -11,11 +11,5 @@ returns c =
     let s = c .before .args in
     sym (ap (λ (n : ℕ). s .x % n) (c .if1 .taken) ∙ mod-zero (s .x))
 
-rem-result : tie.Need-rem-result
-rem-result c = search needs
-
-returns-2 : tie.Need-returns-2
-returns-2 c = search needs
-
 pub remainder-spec : {M : Type 1} → statement M
-remainder-spec = tie.close (tie.spec returns rem-result returns-2)
+remainder-spec = tie.close (tie.spec returns (λ c. search needs) (λ c. search needs))
