@@ -8,7 +8,8 @@ use native.Mathlib.Omega.{arith}
 use borrow.Author.Tests.{ltb-false, leb-false, eqb-false, not-false, ne-eqb}
 use lib.Dec.{lit<}
 use lib.ListN.{length}
-use Rattle.laws.specs.Refusals.{None, none-here, none-more, Numbered, numbered-none, numbered-more, none-only}
+use Rattle.laws.specs.Refusals.{None, none-here, none-more, Numbered, numbered-none, numbered-more}
+use Rattle.laws.proofs.RefusalLaws.{none-only}
 use Rattle.words.specs.declared.part.Order.{Order}
 use Rattle.words.specs.Part.{orderOf, sameAs}
 use Rattle.records.specs.declared.Kind.{Kind}
@@ -20,11 +21,11 @@ use Rattle.builder.specs.declared.Added.{Added}
 use Rattle.builder.specs.declared.Added.the-variants.{Refused}
 use Rattle.builder.specs.State.{fits, lastOf, roomOf}
 use Rattle.builder.proofs.StateLaws.{fits-known, fits-inside}
-use Rattle.builder.specs.Add.{rises, newCauses, continuedCauses, addCauses, addRefusal, recordOf, addOf, bufferAfterAdd, AppendPost, AddPost}
+use Rattle.builder.specs.Add.{risesAfter, newCauses, continuedCauses, addCauses, addRefusal, recordOf, addOf, bufferAfterAdd, AppendPost, AddPost}
 
 -- a key beside the last one
-pub rises-known : (s : PointBuilder) (buffer key : List ℕ) → (s .keys ≡ 0 → ⊥) → (o : Order) → orderOf (keyAt buffer (s .head)) key ≡ o → isLess o ≡ rises s (lastOf s buffer) key
-unfolding rises lastOf
+pub rises-known : (s : PointBuilder) (buffer key : List ℕ) → (s .keys ≡ 0 → ⊥) → (o : Order) → orderOf (keyAt buffer (s .head)) key ≡ o → isLess o ≡ risesAfter s (lastOf s buffer) key
+unfolding risesAfter lastOf
 rises-known s buffer key ne o e = rw (ne-eqb (s .keys) 0 ne, e)
 
 -- what passed of every record
@@ -35,8 +36,8 @@ pub record Sized (s : PointBuilder) (buffer key : List ℕ) (kind : Kind) (size 
   pub valued : fullTombstone (kindByte kind) size ≡ false
 
 -- what passed of a new key
-pub record Opened (s : PointBuilder) (buffer key : List ℕ) : Type 0 where
-  pub rising : rises s (lastOf s buffer) key ≡ true
+pub record AddOpened (s : PointBuilder) (buffer key : List ℕ) : Type 0 where
+  pub rising : risesAfter s (lastOf s buffer) key ≡ true
   pub few : s .keys < 65536
   pub room : 29 + length key ≤ roomOf s buffer
 
@@ -59,15 +60,15 @@ module _ (s : PointBuilder) (buffer key : List ℕ) (kind : Kind) (size sequence
       numbered-more (lit< tt) (numbered-more (lit< tt) (numbered-more (lit< tt) (numbered-more (lit< tt)
       (numbered-more (lit< tt) (numbered-more (lit< tt) (numbered-more (lit< tt) (numbered-more (lit< tt) (numbered-more (lit< tt) numbered-none))))))))
 
-  new-from : None (addCauses s (fits s buffer) (lastOf s buffer) (roomOf s buffer) key kind size sequence true) → Sized s buffer key kind size × Opened s buffer key
+  new-from : None (addCauses s (fits s buffer) (lastOf s buffer) (roomOf s buffer) key kind size sequence true) → Sized s buffer key kind size × AddOpened s buffer key
   unfolding addCauses newCauses
   new-from (none-more f (none-more k (none-more z (none-more t (none-more r (none-more n (none-more m none-here))))))) = (
     record { fitting = not-false (fits s buffer) f; short = ltb-false 1048576 (length key) k; small = ltb-false 16777216 size z; valued = t },
-    record { rising = not-false (rises s (lastOf s buffer) key) r; few = leb-false 65536 (s .keys) n; room = ltb-false (roomOf s buffer) (29 + length key) m },
+    record { rising = not-false (risesAfter s (lastOf s buffer) key) r; few = leb-false 65536 (s .keys) n; room = ltb-false (roomOf s buffer) (29 + length key) m },
   )
 
   -- a new key that no cause refuses
-  pub new-passed : addRefusal s buffer key kind size sequence true ≡ 0 → Sized s buffer key kind size × Opened s buffer key
+  pub new-passed : addRefusal s buffer key kind size sequence true ≡ 0 → Sized s buffer key kind size × AddOpened s buffer key
   unfolding addRefusal
   new-passed e = new-from (none-only (add-numbered true) e)
 

@@ -6,7 +6,8 @@ use mathlib.Core.List.{List}
 use native.Mathlib.Omega.{arith}
 use borrow.Author.Tests.{eqb-true, eqb-false, eq-eqb, ne-eqb, not-false}
 use lib.Dec.{eqb, lit<}
-use Rattle.laws.specs.Refusals.{None, none-here, none-more, Numbered, numbered-none, numbered-more, none-only}
+use Rattle.laws.specs.Refusals.{None, none-here, none-more, Numbered, numbered-none, numbered-more}
+use Rattle.laws.proofs.RefusalLaws.{none-only}
 use Rattle.records.specs.declared.Kind.{Kind}
 use Rattle.builder.specs.declared.PointBuilder.{PointBuilder}
 use Rattle.builder.specs.declared.Added.the-variants as added

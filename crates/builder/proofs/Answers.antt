@@ -8,7 +8,8 @@ use native.Mathlib.Omega.{arith}
 use borrow.Author.Tests.{le-ltb, lt-leb, le-leb, ne-eqb}
 use lib.ListN.{length, drop}
 use lib.Seq.{drop-drop}
-use Rattle.laws.specs.Refusals.{First, here, later, None, none-here, none-more, first-given, first-only, first-positive, none-given, none-only}
+use Rattle.laws.specs.Refusals.{First, here, later, None, none-here, none-more}
+use Rattle.laws.proofs.RefusalLaws.{first-given, first-only, first-positive, none-given, none-only}
 use Rattle.words.specs.Field.{bytesOf, splice}
 use Rattle.words.proofs.Laws.{length-bytesOf, length-splice, drop-splice}
 use Rattle.words.proofs.Ordered.{same-self}
@@ -25,7 +26,7 @@ use Rattle.builder.specs.State.{emptyBuilder, fits, lastOf, roomOf}
 use Rattle.builder.specs.Add.{newCauses, continuedCauses, addCauses, addRefusal, nextState, nextPlace, recordOf, newEntry, appended, addOf, bufferAfterAdd, addedNumber, stateValues, addedValues, AddPost}
 use Rattle.builder.specs.SetOffset.{setCauses, setOf, bufferAfterSet, setNumber, SetPost}
 use Rattle.builder.proofs.StateLaws.{fits-known}
-use Rattle.builder.proofs.AddLaws.{Sized, Opened, Continued, add-numbered, new-ready, continued-ready}
+use Rattle.builder.proofs.AddLaws.{Sized, AddOpened, Continued, add-numbered, new-ready, continued-ready}
 use Rattle.builder.proofs.AnswerLaws.{taken-known, taken-given, buffer-taken, refused-known, refused-given, add-number, set-numbered, set-passed, set-known, set-given, buffer-set, unset-known, unset-given, set-number}
 
 positive : (n : ℕ) → (n ≡ 0 → ⊥) → 0 < n
@@ -105,7 +106,7 @@ module _ (s : PointBuilder) (buffer key : List ℕ) (kind : Kind) (size sequence
 
   module _ (k : Sized s buffer key kind size) where
     -- THEOREM: a new key that breaks no rule and has room is taken
-    pub new-taken : Opened s buffer key → addOf s buffer key kind size sequence true ≡ added.Taken (nextState s key true) (nextPlace s key true)
+    pub new-taken : AddOpened s buffer key → addOf s buffer key kind size sequence true ≡ added.Taken (nextState s key true) (nextPlace s key true)
     unfolding addCauses newCauses
     new-taken o =
         add-takes true

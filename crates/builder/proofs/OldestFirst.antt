@@ -22,8 +22,8 @@ use Rattle.records.proofs.ModelLaws.{rises-rest, rises-below, own-records}
 use Rattle.builder.specs.declared.PointBuilder.{PointBuilder}
 use Rattle.builder.specs.declared.Added.the-variants as added
 use Rattle.builder.specs.State.{lastOf}
-use Rattle.builder.specs.Add.{rises, newCauses, addCauses, addRefusal, recordOf, newEntry, addOf, bufferAfterAdd, addedNumber}
-use Rattle.builder.specs.Taken.{entry, ending, Taken}
+use Rattle.builder.specs.Add.{risesAfter, newCauses, addCauses, addRefusal, recordOf, newEntry, addOf, bufferAfterAdd, addedNumber}
+use Rattle.builder.specs.Taken.{entry, ending, TakenList}
 use Rattle.builder.proofs.AddLaws.{Sized, rises-known, new-passed, continued-passed}
 use Rattle.builder.proofs.AnswerLaws.{refused-given, add-number}
 use Rattle.builder.proofs.ListLaws.{last-each, member-last, falls-above, rises-on}
@@ -33,9 +33,9 @@ use Rattle.builder.proofs.TakenTheorems.{Held, held-none, held-some, ne
 use Rattle.builder.proofs.Answers.{add-refuses, oldest-first-refused}
 
 module _ {s : PointBuilder} {buffer : List ℕ} (front : List Entry) (key : List ℕ) (before : List Record) (last : Record)
-    (t : Taken s buffer (ending front key before last)) where
+    (t : TakenList s buffer (ending front key before last)) where
   -- the last key again is not greater than the last
-  not-rising : rises s (lastOf s buffer) key ≡ false
+  not-rising : risesAfter s (lastOf s buffer) key ≡ false
   unfolding lastOf
   not-rising =
       let l = taken-last front key before last t in
@@ -65,7 +65,7 @@ module _ {s : PointBuilder} {buffer : List ℕ} (front : List Entry) (key : List
         oldest-first-refused s buffer key kind size sequence k (l .0) (ap (λ x. x .key) (l .1)) (rw (l .1) h)
 
 module _ {s : PointBuilder} {buffer : List ℕ} (front : List Entry) (key : List ℕ) (before : List Record) (last : Record)
-    (kind : Kind) (size sequence : ℕ) (newKey : Bool) (t : Taken s buffer (ending front key before last)) (h : last .sequence ≤ sequence) where
+    (kind : Kind) (size sequence : ℕ) (newKey : Bool) (t : TakenList s buffer (ending front key before last)) (h : last .sequence ≤ sequence) where
   -- THEOREM: to a taken list, a record of the last key whose sequence is not below the last one's is never taken, and nothing changes
   pub never-oldest-first : ((addedNumber (addOf s buffer key kind size sequence newKey) ≡ 0) → ⊥)
       × (bufferAfterAdd s buffer key kind size sequence newKey ≡ buffer)
@@ -112,6 +112,6 @@ module _ (buffer key : List ℕ) (kind : Kind) (size sequence : ℕ) where
       rw own (falls-above before last sequence (entry-rules s buffer front lastKey before last st .falls) below)
 
   -- THEOREM: a record that is added to a taken list is older than every record of its key in the list
-  pub added-older : {s : PointBuilder} {table : List Entry} (newKey : Bool) → Taken s buffer table → addedNumber (addOf s buffer key kind size sequence newKey) ≡ 0
+  pub added-older : {s : PointBuilder} {table : List Entry} (newKey : Bool) → TakenList s buffer table → addedNumber (addOf s buffer key kind size sequence newKey) ≡ 0
       → Each (λ v. sequence < v .sequence) (recordsOf table key)
   added-older {s} {table} newKey t z = older-than newKey s table (taken-held t) (sym (add-number s buffer key kind size sequence newKey) ∙ z)

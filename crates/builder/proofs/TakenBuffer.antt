@@ -8,13 +8,14 @@ use lib.ListN.{length, take, length-take, take-append-drop}
 use Rattle.laws.specs.Each.{Each}
 use Rattle.laws.specs.Each.Each.{each-none, each-more}
 use Rattle.words.specs.Field.{bytesOf}
-use Rattle.words.proofs.Laws.{AllBytes, bytes-bytesOf, bytes-append}
+use Rattle.words.proofs.Laws.{bytes-bytesOf, bytes-append}
+use Rattle.words.specs.Field.{AllBytes}
 use Rattle.records.specs.declared.Kind.{Kind}
 use Rattle.records.specs.declared.Kind.the-variants.{Put, Tombstone}
 use Rattle.records.specs.declared.Record.{Record}
 use Rattle.records.specs.Model.{Entry, kindByte, versionBytes, versionsBytes, entryBytes, tableBytes}
 use Rattle.builder.specs.declared.PointBuilder.{PointBuilder}
-use Rattle.builder.specs.Taken.{KeyBytes, Taken, TakenInto}
+use Rattle.builder.specs.Taken.{KeyBytes, TakenList, TakenInto}
 use Rattle.builder.proofs.TakenTheorems.{taken-facts, taken-state, taken-keys}
 use Rattle.builder.proofs.TakenExists.{rules-taken}
 
@@ -50,14 +51,14 @@ table-bytes [] each-none = λ i. lit< tt
 table-bytes (e ∷ es) (each-more b bs) = bytes-append (entryBytes e) (tableBytes es) (entry-bytes e b) (table-bytes es bs)
 
 -- THEOREM: the used bytes of a taken list are bytes
-pub taken-bytes : {s : PointBuilder} {buffer : List ℕ} {table : List Entry} → Taken s buffer table → AllBytes (take (s .used) buffer)
+pub taken-bytes : {s : PointBuilder} {buffer : List ℕ} {table : List Entry} → TakenList s buffer table → AllBytes (take (s .used) buffer)
 taken-bytes {s} {buffer} {table} t = rw (taken-facts t .bytes) (table-bytes table (taken-keys t))
 
 -- ---- another buffer
 
 -- what is taken into a buffer that begins with a taken list's used bytes is that list as it was
-taken-again : {s : PointBuilder} {buffer grown : List ℕ} {table : List Entry} → Taken s buffer table → take (s .used) grown ≡ take (s .used) buffer
-    → TakenInto grown table → Taken s grown table
+taken-again : {s : PointBuilder} {buffer grown : List ℕ} {table : List Entry} → TakenList s buffer table → take (s .used) grown ≡ take (s .used) buffer
+    → TakenInto grown table → TakenList s grown table
 taken-again {s} {buffer} {grown} {table} t same I =
     let e : I .state ≡ s = taken-state (I .taken) ∙ sym (taken-state t) in
     let f : take (I .state .used) (I .after) ≡ take (I .state .used) grown =
@@ -66,8 +67,8 @@ taken-again {s} {buffer} {grown} {table} t same I =
     rw (e, a) at (I .taken)
 
 -- THEOREM: a taken list stays taken where its buffer grows: the used bytes copied to the front of another buffer
-pub taken-grown : {s : PointBuilder} {buffer : List ℕ} {table : List Entry} → Taken s buffer table
-    → (grown : List ℕ) → take (s .used) grown ≡ take (s .used) buffer → Taken s grown table
+pub taken-grown : {s : PointBuilder} {buffer : List ℕ} {table : List Entry} → TakenList s buffer table
+    → (grown : List ℕ) → take (s .used) grown ≡ take (s .used) buffer → TakenList s grown table
 taken-grown {s} {buffer} {table} t grown same =
     let f = taken-facts t in
     let n : length (take (s .used) grown) ≡ length (tableBytes table) = ap length (same ∙ f .bytes) in

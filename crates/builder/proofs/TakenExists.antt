@@ -12,7 +12,7 @@ use Rattle.laws.specs.Each.Each.{each-none, each-more}
 use Rattle.laws.specs.Refusals.{None, none-here, none-more}
 use Rattle.words.specs.declared.part.Order.the-variants.{Less}
 use Rattle.words.specs.Part.{orderOf}
-use Rattle.words.proofs.Laws.{AllBytes}
+use Rattle.words.specs.Field.{AllBytes}
 use Rattle.words.proofs.Ordered.{same-self}
 use Rattle.records.specs.declared.Record.{Record}
 use Rattle.records.specs.declared.DataLength.the-variants.{Untested}
@@ -22,10 +22,10 @@ use Rattle.records.proofs.WriteLaws.{entry-size}
 use Rattle.builder.specs.declared.PointBuilder.{PointBuilder}
 use Rattle.builder.specs.declared.Added.the-variants as added
 use Rattle.builder.specs.State.{emptyBuilder, lastOf, fits}
-use Rattle.builder.specs.Add.{rises, recordOf, newEntry, nextState, nextPlace, addOf, bufferAfterAdd}
+use Rattle.builder.specs.Add.{risesAfter, recordOf, newEntry, nextState, nextPlace, addOf, bufferAfterAdd}
 use Rattle.builder.specs.SetOffset.{setCauses, bufferAfterSet}
 use Rattle.builder.specs.Taken.{entry, ending, KeyBytes, onLast, withVersion, withOffset, withLastOffset, tableAfterAdd, tableAfterSet, taken-none, taken-added, taken-set, TakenInto}
-use Rattle.builder.proofs.AddLaws.{Sized, Opened, Continued, rises-known}
+use Rattle.builder.proofs.AddLaws.{Sized, AddOpened, Continued, rises-known}
 use Rattle.builder.proofs.ListLaws.{last-changed, falls-end, rises-end, rises-front, rises-last}
 use Rattle.builder.proofs.BodyLaws.{table-last, table-append}
 use Rattle.builder.proofs.HeldLaws.{read-key, keyed}
@@ -35,8 +35,8 @@ use Rattle.builder.proofs.Answers.{drop-later, new-taken, continued-tak
 
 -- a key that rises in the table rises in the buffer
 rising-of : (s : PointBuilder) (buffer : List ℕ) (table : List Entry) (e : Entry) → Held s buffer table → Rises (table ++ (e ∷ []))
-    → rises s (lastOf s buffer) (e .key) ≡ true
-unfolding rises
+    → risesAfter s (lastOf s buffer) (e .key) ≡ true
+unfolding risesAfter
 rising-of s buffer table e held-none g = refl
 rising-of s buffer table e (held-some front lastKey before last st) g =
     sym
@@ -109,7 +109,7 @@ module _ (buffer : List ℕ) where
         let c : s .keys ≡ length front = taken-facts (I .taken) .counted in
         let u : s .used ≡ length (tableBytes front) = ap (λ (x : PointBuilder). x .used) (taken-state (I .taken)) in
         let w : length b ≡ length buffer = I .whole in
-        let o : Opened s b key =
+        let o : AddOpened s b key =
         record { rising = rising-of s b front (entry key (r ∷ [])) (taken-held (I .taken)) rising; few = omega arith; room = omega arith } in
         let a = newEntry key (recordOf (r .kind) (r .length) (r .sequence) 0) in
         let n : length (front ++ (a ∷ [])) ≡ length front + 1 = length-append front (a ∷ []) in

@@ -19,9 +19,9 @@ use Rattle.records.specs.Tables.{TableRules}
 use Rattle.records.proofs.ModelLaws.{less-is}
 use Rattle.builder.specs.declared.PointBuilder.{PointBuilder}
 use Rattle.builder.specs.State.{emptyBuilder, lastOf, fits}
-use Rattle.builder.specs.Add.{rises, recordOf, newEntry, nextState, appended, addRefusal, bufferAfterAdd}
+use Rattle.builder.specs.Add.{risesAfter, recordOf, newEntry, nextState, appended, addRefusal, bufferAfterAdd}
 use Rattle.builder.specs.SetOffset.{setRefusal, bufferAfterSet}
-use Rattle.builder.specs.Taken.{entry, ending, KeyBytes, onLast, withVersion, withOffset, withLastOffset, tableAfterAdd, tableAfterSet, Taken, taken-none, taken-added, taken-set}
+use Rattle.builder.specs.Taken.{entry, ending, KeyBytes, onLast, withVersion, withOffset, withLastOffset, tableAfterAdd, tableAfterSet, TakenList, taken-none, taken-added, taken-set}
 use Rattle.builder.proofs.StateLaws.{fits-given}
 use Rattle.builder.proofs.AddLaws.{rises-known, new-passed, continued-passed, new-ready, continued-ready}
 use Rattle.builder.proofs.AnswerLaws.{taken-known, buffer-taken, set-known, set-passed, buffer-set}
@@ -36,7 +36,7 @@ pub data Held : PointBuilder → List ℕ → List Entry → Type 0 where
 
 -- a new key that add takes is greater than the last one held
 pub new-greater : (s : PointBuilder) (buffer : List ℕ) (front : List Entry) (lastKey : List ℕ) (before : List Record) (last : Record)
-    → Standing s buffer front lastKey before last → (key : List ℕ) → rises s (lastOf s buffer) key ≡ true → orderOf lastKey key ≡ Less
+    → Standing s buffer front lastKey before last → (key : List ℕ) → risesAfter s (lastOf s buffer) key ≡ true → orderOf lastKey key ≡ Less
 new-greater s buffer front lastKey before last st key r =
     less-is (orderOf lastKey key)
     (rises-known s buffer key (keyed s buffer front lastKey before last st) (orderOf lastKey key)
@@ -87,7 +87,7 @@ held-set s buffer table place offset h (held-some front key before last st) z =
     (held-some front key before (withOffset offset last) (set-stands s buffer front key before last st offset h place (p .2)))
 
 -- every taken list is held
-pub taken-held : {s : PointBuilder} {buffer : List ℕ} {table : List Entry} → Taken s buffer table → Held s buffer table
+pub taken-held : {s : PointBuilder} {buffer : List ℕ} {table : List Entry} → TakenList s buffer table → Held s buffer table
 taken-held taken-none = held-none
 taken-held (taken-added {s} {next} {buffer} {table} {place} key kind size sequence newKey t b q e) =
     let k = taken-known s buffer key kind size sequence newKey e in
@@ -118,7 +118,7 @@ held-facts (held-some {s} {buffer} front key before last st) =
     }
 
 -- its used bytes are the bytes of its table, its state fits and counts its keys, and its table keeps the rules of keys and versions
-pub taken-facts : {s : PointBuilder} {buffer : List ℕ} {table : List Entry} → Taken s buffer table → TakenFacts s buffer table
+pub taken-facts : {s : PointBuilder} {buffer : List ℕ} {table : List Entry} → TakenList s buffer table → TakenFacts s buffer table
 taken-facts t = held-facts (taken-held t)
 
 -- ---- THEOREM: the state of a taken list is fixed by its table
@@ -140,12 +140,12 @@ held-state (held-some {s} {buffer} front key before last st) =
     let h : s .head ≡ length (tableBytes (take (length (front ++ (e ∷ [])) - 1) (front ++ (e ∷ [])))) = st .headed ∙ ap (λ (l : List Entry). length (tableBytes l)) (sym f) in
     rw (← h, ← u, ← c)
 
-pub taken-state : {s : PointBuilder} {buffer : List ℕ} {table : List Entry} → Taken s buffer table → s ≡ stateFor table
+pub taken-state : {s : PointBuilder} {buffer : List ℕ} {table : List Entry} → TakenList s buffer table → s ≡ stateFor table
 taken-state t = held-state (taken-held t)
 
 -- ---- THEOREM: the keys of a taken list are bytes
 
-pub taken-keys : {s : PointBuilder} {buffer : List ℕ} {table : List Entry} → Taken s buffer table → Each KeyBytes table
+pub taken-keys : {s : PointBuilder} {buffer : List ℕ} {table : List Entry} → TakenList s buffer table → Each KeyBytes table
 unfolding tableAfterAdd tableAfterSet
 taken-keys taken-none = each-none
 taken-keys (taken-added {s} {next} {buffer} {table} {place} key kind size sequence true t b q e) = each-last table (newEntry key (recordOf kind size sequence 0)) (taken-keys t) b
@@ -175,6 +175,6 @@ held-last front key before last (held-some {s} {buffer} front' key' before' last
     let l = last-read s buffer front' key' before' last' st in
     (keyed s buffer front' key' before' last' st, rw (← k, ← v, ← n) l)
 
-pub taken-last : {s : PointBuilder} {buffer : List ℕ} (front : List Entry) (key : List ℕ) (before : List Record) (last : Record) → Taken s buffer (ending front key before last)
+pub taken-last : {s : PointBuilder} {buffer : List ℕ} (front : List Entry) (key : List ℕ) (before : List Record) (last : Record) → TakenList s buffer (ending front key before last)
     → (s .keys ≡ 0 → ⊥) × (lastOf s buffer ≡ record { key = key; sequence = last .sequence; versions = length (before ++ (last ∷ [])) })
 taken-last front key before last t = held-last front key before last (taken-held t) refl

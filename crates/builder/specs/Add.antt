@@ -19,8 +19,8 @@ use Rattle.builder.specs.declared.Added.the-variants.{Taken, Refused}
 use Rattle.builder.specs.State.{fits, Last, lastOf, roomOf}
 
 -- the key is greater than the last, if there is one
-unfoldable pub rises : PointBuilder → Last → List ℕ → Bool
-rises s last key = cond (eqb (s .keys) 0) true (isLess (orderOf (last .key) key))
+unfoldable pub risesAfter : PointBuilder → Last → List ℕ → Bool
+risesAfter s last key = cond (eqb (s .keys) 0) true (isLess (orderOf (last .key) key))
 
 -- the bytes that a record takes: a version of 21, with 8 and the key before it where the key is new
 abbrev pub needed : List ℕ → Bool → ℕ
@@ -29,7 +29,7 @@ needed key newKey = cond newKey (29 + length key) 21
 -- a new key: 4 not greater than the last, 5 a 65,537th key, 6 buffer too short
 unfoldable pub newCauses : PointBuilder → Last → (room : ℕ) → List ℕ → List Cause
 newCauses s last room key =
-    cause (not (rises s last key)) 4
+    cause (not (risesAfter s last key)) 4
     ∷ cause (leb 65536 (s .keys)) 5
     ∷ cause (ltb room (29 + length key)) 6
     ∷ []

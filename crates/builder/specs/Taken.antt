@@ -54,21 +54,21 @@ unfoldable pub tableAfterSet : List Entry → (offset : ℕ) → List Entry
 tableAfterSet table offset = onLast (withLastOffset offset) table
 
 -- the state, the buffer and the table of a list that is taken: the empty builder, a record added with offset 0, the last record's offset set
-pub data Taken : PointBuilder → List ℕ → List Entry → Type 0 where
-  taken-none : {buffer : List ℕ} → Taken emptyBuilder buffer []
+pub data TakenList : PointBuilder → List ℕ → List Entry → Type 0 where
+  taken-none : {buffer : List ℕ} → TakenList emptyBuilder buffer []
   taken-added : {s next : PointBuilder} {buffer : List ℕ} {table : List Entry} {place : ℕ} (key : List ℕ) (kind : Kind) (size sequence : ℕ) (newKey : Bool)
-      → Taken s buffer table → ((i : ℕ) → getD key i 0 < 256) → sequence < 2 ^ 64
+      → TakenList s buffer table → ((i : ℕ) → getD key i 0 < 256) → sequence < 2 ^ 64
       → addOf s buffer key kind size sequence newKey ≡ added.Taken next place
-      → Taken next (bufferAfterAdd s buffer key kind size sequence newKey) (tableAfterAdd table key (recordOf kind size sequence 0) newKey)
+      → TakenList next (bufferAfterAdd s buffer key kind size sequence newKey) (tableAfterAdd table key (recordOf kind size sequence 0) newKey)
   taken-set : {s : PointBuilder} {buffer : List ℕ} {table : List Entry} (place offset : ℕ)
-      → Taken s buffer table → offset < 2 ^ 64
+      → TakenList s buffer table → offset < 2 ^ 64
       → setOf s buffer place ≡ Set
-      → Taken s (bufferAfterSet s buffer place offset) (tableAfterSet table offset)
+      → TakenList s (bufferAfterSet s buffer place offset) (tableAfterSet table offset)
 
 -- a list that is taken into a buffer: its length is kept, and nothing behind the used bytes is changed
 pub record TakenInto (buffer : List ℕ) (table : List Entry) : Type 0 where
   pub state : PointBuilder
   pub after : List ℕ
-  pub taken : Taken state after table
+  pub taken : TakenList state after table
   pub behind : drop (state .used) after ≡ drop (state .used) buffer
   pub whole : length after ≡ length buffer

@@ -8,7 +8,7 @@ ghost use Rattle.words.specs.Field.{splice};
 ghost use Rattle.records.specs.Model.{versionBytes};
 ghost use Rattle.records.specs.Places.{versionCount};
 ghost use Rattle.builder.specs.State.{emptyBuilder, fits, lastOf, roomOf};
-ghost use Rattle.builder.specs.Add.{rises, newCauses, continuedCauses, addRefusal, AppendPost, AddPost};
+ghost use Rattle.builder.specs.Add.{risesAfter, newCauses, continuedCauses, addRefusal, AppendPost, AddPost};
 ghost use Rattle.builder.specs.SetOffset.{SetPost};
 use records::Arena;
 use records::Kind;
@@ -100,9 +100,9 @@ impl PointBuilder {
     }
 
     // Whether a key is greater than the last, if there is one.
-    fn rises(self, buffer: &[u8], key: &[u8]) -> bool
+    fn risesAfter(self, buffer: &[u8], key: &[u8]) -> bool
         requires { ⌜ fits self (now buffer) ≡ true ⌝ }
-        ensures { λ r. ⌜ r ≡ rises self (lastOf self (now (buffer .entry))) (now (key .entry)) ⌝ }
+        ensures { λ r. ⌜ r ≡ risesAfter self (lastOf self (now (buffer .entry))) (now (key .entry)) ⌝ }
     {
         let head = self.head;
         if self.keys == 0 {

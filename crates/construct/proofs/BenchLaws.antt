@@ -9,10 +9,11 @@ use native.Mathlib.Numerals.{add-one, lt-of-le-of-ne}
 use native.Mathlib.Omega.{arith}
 use lib.ListN.{length, getD, set, take, drop, length-drop}
 use lib.Seq.{length-take-le, getD-take, take-set-le}
-use Rattle.laws.specs.Steps.{least, steps, steps-none, steps-more, steps-failed}
-use Rattle.construct.specs.Construct.{bucketsOf, tries, group, size, seat, Placing, noted, placeGroup, placeOf, placeSize, placeDown, twins, twinsAt}
-use Rattle.construct.specs.Seating.{Keys, Ready, Searched}
-use Rattle.construct.specs.Layout.{start, placing, Bench, Stepped}
+use Rattle.laws.specs.Steps.{least, steps}
+use Rattle.laws.proofs.StepsLaws.{steps-none, steps-more, steps-failed}
+use Rattle.construct.specs.Construct.{bucketsOf, tries, group, size, seat, Placing, pilotNoted, placeGroup, placeOf, placeSize, placeDown, twins, twinsAt}
+use Rattle.construct.specs.Seating.{Keys, SeatsReady, PilotSearched}
+use Rattle.construct.specs.Layout.{bucketStart, placing, Bench, Stepped}
 use Rattle.construct.proofs.Placed.{member-of, of-skips, of-several}
 use Rattle.construct.proofs.PlacesLaws.{start-next, start-all, start-rises}
 use Rattle.construct.proofs.PartsLaws.{part, back, set-inside, set-before, back-inside, back-before}
@@ -56,13 +57,13 @@ module _ (h w : List ℕ) (n b : ℕ) (B : Bench h w n b) where
     low-k = omega (arith, l, bench-buckets)
 
     -- where bucket k begins and ends
-    pub bench-from : getD w k 0 ≡ start (take n h) k
+    pub bench-from : getD w k 0 ≡ bucketStart (take n h) k
     bench-from = B .grouped .starts k (omega (arith, low-k))
 
-    pub bench-to : getD w (k + 1) 0 ≡ start (take n h) k + size (take n h) k
-    bench-to = B .grouped .starts (k + 1) (omega (arith, low-k)) ∙ ap (start (take n h)) (add-one k) ∙ start-next (take n h) bench-any k
+    pub bench-to : getD w (k + 1) 0 ≡ bucketStart (take n h) k + size (take n h) k
+    bench-to = B .grouped .starts (k + 1) (omega (arith, low-k)) ∙ ap (bucketStart (take n h)) (add-one k) ∙ start-next (take n h) bench-any k
 
-    pub bench-most : start (take n h) k + size (take n h) k ≤ n
+    pub bench-most : bucketStart (take n h) k + size (take n h) k ≤ n
     bench-most = omega (arith, start-rises (take n h) bench-any k (bucketsOf (length (take n h))) low-k, start-all (take n h) bench-any, bench-keys)
 
     -- its members, as they are lent
@@ -72,7 +73,7 @@ module _ (h w : List ℕ) (n b : ℕ) (B : Bench h w n b) where
         ap₂ (λ (x y : ℕ). part x y h) (ap₂ _+_ (sym bench-keys) bench-from) many
         ∙ B .grouped .groups k low-k
 
-    pub bench-ready : (ms s : List ℕ) → ms ≡ group (take n h) k → length s ≡ n → Ready (take n h) ms s
+    pub bench-ready : (ms s : List ℕ) → ms ≡ group (take n h) k → length s ≡ n → SeatsReady (take n h) ms s
     unfolding size
     bench-ready ms s e es = record {
       of = record {
@@ -88,15 +89,15 @@ module _ (h w : List ℕ) (n b : ℕ) (B : Bench h w n b) where
     bench-slots = length-take-le n (drop (b + 1 + b) w) (omega (arith, length-drop (b + 1 + b) w, B .room))
 
     -- a search for bucket k's pilot that found none, and one that did
-    module _ (ms t : List ℕ) (r : ℕ) (e : ms ≡ group (take n h) k) (f : Searched (take n h) ms (part (b + 1 + b) n w) t r) where
+    module _ (ms t : List ℕ) (r : ℕ) (e : ms ≡ group (take n h) k) (f : PilotSearched (take n h) ms (part (b + 1 + b) n w) t r) where
       pub group-none : r ≡ tries → placeGroup (take n h) k (placing n b w) ≡ none
       unfolding placeGroup placing size
-      group-none z = ap (Option·map (noted k 0 (placing n b w))) (subst (λ (x : List ℕ). least (λ p. seat (take n h) x p (length x) (part (b + 1 + b) n w)) tries 0 ≡ none) e (f .miss z .0))
+      group-none z = ap (Option·map (pilotNoted k 0 (placing n b w))) (subst (λ (x : List ℕ). least (λ p. seat (take n h) x p (length x) (part (b + 1 + b) n w)) tries 0 ≡ none) e (f .miss z .0))
 
       pub group-some : (r ≡ tries → ⊥) → length t ≡ n → Stepped (placeGroup (take n h) k (placing n b w)) n b w (set (back (b + 1 + b) n t w) (b + 1 + k) r) true
-      unfolding placeGroup placing size noted
+      unfolding placeGroup placing size pilotNoted
       group-some z len = (
-        ap (Option·map (noted k 0 (placing n b w))) (subst (λ (x : List ℕ). least (λ p. seat (take n h) x p (length x) (part (b + 1 + b) n w)) tries 0 ≡ some (r, t)) e (f .hit (lt-of-le-of-ne (f .most) z)))
+        ap (Option·map (pilotNoted k 0 (placing n b w))) (subst (λ (x : List ℕ). least (λ p. seat (take n h) x p (length x) (part (b + 1 + b) n w)) tries 0 ≡ some (r, t)) e (f .hit (lt-of-le-of-ne (f .most) z)))
             ∙ ap some (same-placing _ _ _ _ (sym pilots) (sym slots)),
         take-set-le (b + 1) (back (b + 1 + b) n t w) (b + 1 + k) r (omega arith) ∙ back-before w (b + 1 + b) n t fits 0 (b + 1) (omega arith),
       )
@@ -112,16 +113,16 @@ module _ (h w : List ℕ) (n b : ℕ) (B : Bench h w n b) where
 
     -- the same, where the length of the lent part is m, which is n
     module _ (m : ℕ) (em : m ≡ n) (ms t : List ℕ) (r : ℕ) (e : ms ≡ group (take n h) k) where
-      pub lent-ready : Ready (take n h) ms (part (b + 1 + b) m w)
+      pub lent-ready : SeatsReady (take n h) ms (part (b + 1 + b) m w)
       lent-ready = bench-ready ms (part (b + 1 + b) m w) e (ap (λ (x : ℕ). length (part (b + 1 + b) x w)) em ∙ bench-slots)
 
-      pub lent-none : Searched (take n h) ms (part (b + 1 + b) m w) t r → r ≡ tries → placeGroup (take n h) k (placing n b w) ≡ none
-      lent-none f = group-none ms t r e (subst (λ (x : ℕ). Searched (take n h) ms (part (b + 1 + b) x w) t r) em f)
+      pub lent-none : PilotSearched (take n h) ms (part (b + 1 + b) m w) t r → r ≡ tries → placeGroup (take n h) k (placing n b w) ≡ none
+      lent-none f = group-none ms t r e (subst (λ (x : ℕ). PilotSearched (take n h) ms (part (b + 1 + b) x w) t r) em f)
 
-      pub lent-some : Searched (take n h) ms (part (b + 1 + b) m w) t r → (r ≡ tries → ⊥) → length t ≡ length (part (b + 1 + b) m w) → Stepped (placeGroup (take n h) k (placing n b w)) n b w (set (back (b + 1 + b) m t w) (b + 1 + k) r) true
+      pub lent-some : PilotSearched (take n h) ms (part (b + 1 + b) m w) t r → (r ≡ tries → ⊥) → length t ≡ length (part (b + 1 + b) m w) → Stepped (placeGroup (take n h) k (placing n b w)) n b w (set (back (b + 1 + b) m t w) (b + 1 + k) r) true
       lent-some f z len =
           subst (λ (x : ℕ). Stepped (placeGroup (take n h) k (placing n b w)) n b w (set (back (b + 1 + b) x t w) (b + 1 + k) r) true) (sym em)
-          (group-some ms t r e (subst (λ (x : ℕ). Searched (take n h) ms (part (b + 1 + b) x w) t r) em f) z (len ∙ ap (λ (x : ℕ). length (part (b + 1 + b) x w)) em ∙ bench-slots))
+          (group-some ms t r e (subst (λ (x : ℕ). PilotSearched (take n h) ms (part (b + 1 + b) x w) t r) em f) z (len ∙ ap (λ (x : ℕ). length (part (b + 1 + b) x w)) em ∙ bench-slots))
 
 -- what a read of bucket k's two ends needs: they lie in order, and all of it inside the workspace
 pub record Inside (h w : List ℕ) (n b k : ℕ) : Type 0 where

@@ -9,8 +9,9 @@ use native.Mathlib.Omega.{arith}
 use native.Mathlib.Decide.{ℕ-discrete}
 use lib.ListN.{length, getD, set, replicate, length-set, length-replicate}
 use lib.Seq.{getD-set-same, getD-set-other}
-use Rattle.laws.specs.Steps.{steps, steps-none, steps-more, steps-keep, least, least-found, least-before}
-use Rattle.construct.specs.Construct.{bucketsOf, tries, direct, group, size, settle, seat, Placing, noted, placeGroup, placeSingle, placeOf, placeSize, placeDown, largest, blank, anyTwins, attemptFrom, attemptOf}
+use Rattle.laws.specs.Steps.{steps, least}
+use Rattle.laws.proofs.StepsLaws.{steps-none, steps-more, steps-keep, least-found, least-before}
+use Rattle.construct.specs.Construct.{bucketsOf, tries, direct, group, size, settle, seat, Placing, pilotNoted, placeGroup, placeSingle, placeOf, placeSize, placeDown, largest, blank, anyTwins, attemptFrom, attemptOf}
 use Rattle.construct.specs.Promised.{Turn, LeastPilot, LowestSlot, Pilots}
 use Rattle.construct.proofs.SlotsLaws.{settle-free, settle-some}
 use Rattle.construct.proofs.Placed.{done, done-others, done-now, done-skips, done-none, done-all, done-turns, of-skips, of-one, of-several}
@@ -18,13 +19,13 @@ use Rattle.construct.proofs.FitsLaws.{tried-low, seat-fits, unseated}
 use Rattle.construct.proofs.TurnsLaws.{size-most, turn-spots}
 
 -- the pilots of the buckets that D names, and 0 for the others
-record Chosen (hs : List ℕ) (D : ℕ → Bool) (pl : Placing) : Type 0 where
+record PilotsChosen (hs : List ℕ) (D : ℕ → Bool) (pl : Placing) : Type 0 where
   pub long : length (pl .pilots) ≡ bucketsOf (length hs)
   pub several : (k : ℕ) → k < bucketsOf (length hs) → D k ≡ true → 1 < size hs k → LeastPilot hs k (getD (pl .pilots) k 0)
   pub single : (k : ℕ) → k < bucketsOf (length hs) → D k ≡ true → size hs k ≡ 1 → LowestSlot hs k (getD (pl .pilots) k 0)
   pub empty : (k : ℕ) → k < bucketsOf (length hs) → D k ≡ false → getD (pl .pilots) k 0 ≡ 0
 
-same-chosen : (hs : List ℕ) (D D′ : ℕ → Bool) (pl : Placing) → ((k : ℕ) → k < bucketsOf (length hs) → D k ≡ D′ k) → Chosen hs D pl → Chosen hs D′ pl
+same-chosen : (hs : List ℕ) (D D′ : ℕ → Bool) (pl : Placing) → ((k : ℕ) → k < bucketsOf (length hs) → D k ≡ D′ k) → PilotsChosen hs D pl → PilotsChosen hs D′ pl
 same-chosen hs D D′ pl e w = record {
   long = w .long;
   several = λ k l d. w .several k l (e k l ∙ d);
@@ -35,9 +36,9 @@ same-chosen hs D D′ pl e w = record {
 module _ (hs : List ℕ) (pos : 0 < length hs) (k : ℕ) (low : k < bucketsOf (length hs)) (pl : Placing) (T : Turn hs k pl) where
   -- what a bucket of several members takes in its turn
   several-takes : (pl′ : Placing) → placeGroup hs k pl ≡ some pl′ → (v : ℕ) × LeastPilot hs k v × (set (pl .pilots) k v ≡ pl′ .pilots)
-  unfolding placeGroup noted size
+  unfolding placeGroup pilotNoted size
   several-takes pl′ h =
-      let r = map-eq-some-iff (noted k 0 pl) (least try tries 0) .0 h in
+      let r = map-eq-some-iff (pilotNoted k 0 pl) (least try tries 0) .0 h in
       let p = r .0 .0 in
       let f = least-found try tries 0 p (r .0 .1) (r .1) in (
         p,
@@ -56,9 +57,9 @@ module _ (hs : List ℕ) (pos : 0 < length hs) (k : ℕ) (low : k < bucketsOf (l
 
   -- what a single-member bucket takes in its turn
   single-takes : (pl′ : Placing) → placeSingle hs k pl ≡ some pl′ → (v : ℕ) × LowestSlot hs k v × (set (pl .pilots) k v ≡ pl′ .pilots)
-  unfolding placeSingle noted
+  unfolding placeSingle pilotNoted
   single-takes pl′ h =
-      let r = map-eq-some-iff (noted k direct pl) (least try (length hs) 0) .0 h in
+      let r = map-eq-some-iff (pilotNoted k direct pl) (least try (length hs) 0) .0 h in
       let at = r .0 .0 in
       let f = least-found try (length hs) 0 at (r .0 .1) (r .1) in (
         direct + at,
@@ -82,7 +83,7 @@ module _ (hs : List ℕ) (pos : 0 < length hs) (k : ℕ) (low : k < bucketsOf (l
 
   -- its pilot noted, the others as they were
   noted-chosen : (D D′ : ℕ → Bool) → D′ k ≡ true → ((j : ℕ) → (j ≡ k → ⊥) → D′ j ≡ D j) → (pl′ : Placing) (v : ℕ) → set (pl .pilots) k v ≡ pl′ .pilots
-      → (1 < size hs k → LeastPilot hs k v) → (size hs k ≡ 1 → LowestSlot hs k v) → Chosen hs D pl → Chosen hs D′ pl′
+      → (1 < size hs k → LeastPilot hs k v) → (size hs k ≡ 1 → LowestSlot hs k v) → PilotsChosen hs D pl → PilotsChosen hs D′ pl′
   noted-chosen D D′ now-so others pl′ v e two one w = record {
     long = ap length (sym e) ∙ length-set (pl .pilots) k v ∙ w .long;
     several = λ j l d z. severals j l d z (ℕ-discrete j k);
@@ -110,7 +111,7 @@ module _ (hs : List ℕ) (pos : 0 < length hs) (k : ℕ) (low : k < bucketsOf (l
 
 module _ (hs : List ℕ) (pos : 0 < length hs) where
   -- bucket k passed, in the pass of size s that began with `top`
-  of-chosen : (s : ℕ) (top : Placing) → steps (placeDown hs (largest hs)) (largest hs - s) (blank hs) ≡ some top → (k : ℕ) → k < bucketsOf (length hs) → (pl pl′ : Placing) → steps (placeOf hs s) k top ≡ some pl → Chosen hs (done hs s k) pl → placeOf hs s k pl ≡ some pl′ → Chosen hs (done hs s (suc k)) pl′
+  of-chosen : (s : ℕ) (top : Placing) → steps (placeDown hs (largest hs)) (largest hs - s) (blank hs) ≡ some top → (k : ℕ) → k < bucketsOf (length hs) → (pl pl′ : Placing) → steps (placeOf hs s) k top ≡ some pl → PilotsChosen hs (done hs s k) pl → placeOf hs s k pl ≡ some pl′ → PilotsChosen hs (done hs s (suc k)) pl′
   of-chosen s top big k low pl pl′ before w h = go (ℕ-discrete (size hs k) s) (ℕ-discrete s 1)
     where
       turn : size hs k ≡ s → Turn hs k pl
@@ -120,9 +121,9 @@ module _ (hs : List ℕ) (pos : 0 < length hs) where
         lower = subst (λ (x : ℕ). steps (placeOf hs x) k top ≡ some pl) (sym e) before;
       }
 
-      go : Dec (size hs k ≡ s) → Dec (s ≡ 1) → Chosen hs (done hs s (suc k)) pl′
+      go : Dec (size hs k ≡ s) → Dec (s ≡ 1) → PilotsChosen hs (done hs s (suc k)) pl′
       go (no e) d =
-          subst (Chosen hs (done hs s (suc k))) (Option·some-injective pl pl′ (sym (of-skips hs s k pl e) ∙ h))
+          subst (PilotsChosen hs (done hs s (suc k))) (Option·some-injective pl pl′ (sym (of-skips hs s k pl e) ∙ h))
           (same-chosen hs (done hs s k) (done hs s (suc k)) pl (λ j _. done-skips hs s k e j) w)
       go (yes e) (yes d) =
           let r = single-takes hs pos k low pl (turn e) pl′ (sym (of-one hs s k pl e d) ∙ h) in
@@ -132,14 +133,14 @@ module _ (hs : List ℕ) (pos : 0 < length hs) where
           noted-chosen hs pos k low pl (turn e) (done hs s k) (done hs s (suc k)) (done-now hs s k e) (done-others hs s k) pl′ (r .0) (r .2) (λ _. r .1) (λ z. absurd (d (sym e ∙ z))) w
 
   -- a whole pass
-  size-chosen : (s : ℕ) (top pl′ : Placing) → steps (placeDown hs (largest hs)) (largest hs - suc s) (blank hs) ≡ some top → Chosen hs (done hs (suc s) 0) top → placeSize hs (suc s) top ≡ some pl′ → Chosen hs (done hs s 0) pl′
+  size-chosen : (s : ℕ) (top pl′ : Placing) → steps (placeDown hs (largest hs)) (largest hs - suc s) (blank hs) ≡ some top → PilotsChosen hs (done hs (suc s) 0) top → placeSize hs (suc s) top ≡ some pl′ → PilotsChosen hs (done hs s 0) pl′
   unfolding placeSize
   size-chosen s top pl′ big w h =
-      let r = steps-keep (placeOf hs (suc s)) (λ k x. (steps (placeOf hs (suc s)) k top ≡ some x) × Chosen hs (done hs (suc s) k) x) top (steps-none (placeOf hs (suc s)) top, w) (bucketsOf (length hs))
+      let r = steps-keep (placeOf hs (suc s)) (λ k x. (steps (placeOf hs (suc s)) k top ≡ some x) × PilotsChosen hs (done hs (suc s) k) x) top (steps-none (placeOf hs (suc s)) top, w) (bucketsOf (length hs))
       (λ k l x y z e. (steps-more (placeOf hs (suc s)) k top x (z .0) ∙ e, of-chosen (suc s) top big k l x y (z .0) (z .1) e)) (bucketsOf (length hs)) (omega arith) pl′ h in
       same-chosen hs (done hs (suc s) (bucketsOf (length hs))) (done hs s 0) pl′ (λ j l. done-turns hs s (bucketsOf (length hs)) j l) (r .1)
 
-  blank-chosen : Chosen hs (λ _. false) (blank hs)
+  blank-chosen : PilotsChosen hs (λ _. false) (blank hs)
   unfolding blank
   blank-chosen = record {
     long = length-replicate (bucketsOf (length hs)) 0;
@@ -154,24 +155,24 @@ module _ (hs : List ℕ) (pos : 0 < length hs) where
       zeros (suc n) (suc k) = zeros n k
 
   -- all passes
-  all-chosen : (pl : Placing) → steps (placeDown hs (largest hs)) (largest hs) (blank hs) ≡ some pl → Chosen hs (done hs 0 0) pl
+  all-chosen : (pl : Placing) → steps (placeDown hs (largest hs)) (largest hs) (blank hs) ≡ some pl → PilotsChosen hs (done hs 0 0) pl
   unfolding placeDown
   all-chosen pl h =
-      let r = steps-keep (placeDown hs L) (λ t x. (steps (placeDown hs L) t (blank hs) ≡ some x) × Chosen hs (done hs (L - t) 0) x) (blank hs) (steps-none (placeDown hs L) (blank hs), start) L
+      let r = steps-keep (placeDown hs L) (λ t x. (steps (placeDown hs L) t (blank hs) ≡ some x) × PilotsChosen hs (done hs (L - t) 0) x) (blank hs) (steps-none (placeDown hs L) (blank hs), start) L
       (λ t l x y z e. (steps-more (placeDown hs L) t (blank hs) x (z .0) ∙ e, pass t l x y (z .0) (z .1) e)) L (omega arith) pl h in
-      subst (λ (s : ℕ). Chosen hs (done hs s 0) pl) (omega arith) (r .1)
+      subst (λ (s : ℕ). PilotsChosen hs (done hs s 0) pl) (omega arith) (r .1)
     where
       L : ℕ
       L = largest hs
 
-      start : Chosen hs (done hs (L - 0) 0) (blank hs)
+      start : PilotsChosen hs (done hs (L - 0) 0) (blank hs)
       start = same-chosen hs (λ _. false) (done hs (L - 0) 0) (blank hs) (λ k l. sym (done-none hs (L - 0) k (omega (arith, size-most hs pos k l)))) blank-chosen
 
-      pass : (t : ℕ) → t < L → (x y : Placing) → steps (placeDown hs L) t (blank hs) ≡ some x → Chosen hs (done hs (L - t) 0) x → placeSize hs (L - t) x ≡ some y → Chosen hs (done hs (L - suc t) 0) y
+      pass : (t : ℕ) → t < L → (x y : Placing) → steps (placeDown hs L) t (blank hs) ≡ some x → PilotsChosen hs (done hs (L - t) 0) x → placeSize hs (L - t) x ≡ some y → PilotsChosen hs (done hs (L - suc t) 0) y
       pass t l x y big w e =
           size-chosen (L - suc t) x y
           (ap (λ (i : ℕ). steps (placeDown hs L) i (blank hs)) (omega arith) ∙ big)
-          (subst (λ (s : ℕ). Chosen hs (done hs s 0) x) (omega arith) w)
+          (subst (λ (s : ℕ). PilotsChosen hs (done hs s 0) x) (omega arith) w)
           (subst (λ (s : ℕ). placeSize hs s x ≡ some y) (omega arith) e)
 
   -- THE PILOTS TAKEN ARE THE LEAST, single-member buckets name the lowest free slot, empty ones have 0
@@ -179,7 +180,7 @@ module _ (hs : List ℕ) (pos : 0 < length hs) where
   unfolding attemptOf attemptFrom
   pilots-least pl h = go (anyTwins hs) h
     where
-      all : Chosen hs (done hs 0 0) pl → Pilots hs (pl .pilots)
+      all : PilotsChosen hs (done hs 0 0) pl → Pilots hs (pl .pilots)
       all w = record {
         several = λ k l z. w .several k l (done-all hs k (omega arith)) z;
         single = λ k l z. w .single k l (done-all hs k (omega arith)) z;

@@ -10,10 +10,10 @@ use native.Mathlib.Numerals.{lt-of-le-of-ne}
 use lib.ListN.{length, take, drop, replicate}
 use lib.Seq.{length-take-le, length-front, take-at}
 use Rattle.mixing.specs.Mixing.{seedOf}
-use Rattle.laws.specs.Steps.{least-at, least-of-none}
+use Rattle.laws.proofs.StepsLaws.{least-at, least-of-none}
 use Rattle.construct.specs.Construct.{bucketsOf, attempts, Placing, attemptOf, constructOf}
 use Rattle.construct.specs.Keys.{Entries, hashesOf, attemptHashes}
-use Rattle.construct.specs.Layout.{placing, Fresh, Lent, Attempted, answerOf, Built}
+use Rattle.construct.specs.Layout.{placing, Fresh, Lent, Attempted, constructedOf, ConstructPost}
 use Rattle.construct.specs.declared.Constructed.the-variants.{Placed, Exhausted}
 use Rattle.construct.proofs.LayingLaws.{zero-front}
 
@@ -56,10 +56,10 @@ attempted hs hs′ n b h w r e a = subst (λ (x : List ℕ). Attempted x n b h w
 
 -- attempt i, under the seed `seed` of mixing, after attempts that failed
 module _ (arena : List ℕ) (n i : ℕ) (failed : (q : ℕ) → q < i → attemptOf (attemptHashes arena n q) ≡ none) where
-  pub built-none : attempts ≤ i → (h w : List ℕ) → Built (attemptHashes arena n) n h w Exhausted
+  pub built-none : attempts ≤ i → (h w : List ℕ) → ConstructPost (attemptHashes arena n) n h w Exhausted
   unfolding constructOf
   built-none l h w = record {
-    answer = sym (ap answerOf e);
+    answer = sym (ap constructedOf e);
     placed = λ j pl z. absurd (Option·none-ne-some (j, pl) (sym e ∙ z));
     kept = λ j pl z. absurd (Option·none-ne-some (j, pl) (sym e ∙ z));
   }
@@ -72,10 +72,10 @@ module _ (arena : List ℕ) (n i : ℕ) (failed : (q : ℕ) → q < i → attemp
     unfolding attemptHashes
     under = attempted (hashesOf seed arena n) (hashesOf (seedOf i) arena n) n b h w r (ap (λ (x : ℕ). hashesOf x arena n) es) a
 
-    pub built-placed : i < attempts → r ≡ true → Built (attemptHashes arena n) n h w (Placed i)
+    pub built-placed : i < attempts → r ≡ true → ConstructPost (attemptHashes arena n) n h w (Placed i)
     unfolding constructOf
     built-placed l t = record {
-      answer = sym (ap answerOf e);
+      answer = sym (ap constructedOf e);
       placed = λ j pl z. ap (λ (x : ℕ). placing n x w) (sym eb) ∙ ap (λ (x : ℕ × Placing). x .1) (same j pl z);
       kept = λ j pl z. under .hashes ∙ ap (λ (x : ℕ × Placing). attemptHashes arena n (x .0)) (same j pl z);
     }

@@ -6,10 +6,10 @@ use mathlib.Core.List.{List, [], _∷_}
 use mathlib.Core.Option.{Option, none, some}
 use native.Mathlib.Omega.{arith}
 use lib.ListN.{length}
-use Rattle.laws.specs.Steps.{least-found, least-before, least-none, least-of-none}
+use Rattle.laws.proofs.StepsLaws.{least-found, least-before, least-none, least-of-none}
 use Rattle.construct.specs.Construct.{attempts, Placing, attemptOf, constructOf}
-use Rattle.construct.specs.Promised.{Whole, Pilots}
-use Rattle.construct.specs.Layout.{answerOf, numberOf, valuesOf, Built}
+use Rattle.construct.specs.Promised.{AllPlaced, Pilots}
+use Rattle.construct.specs.Layout.{constructedOf, constructedNumber, constructedValues, ConstructPost}
 use Rattle.construct.specs.declared.Constructed.{Constructed}
 use Rattle.construct.proofs.Placed.{placed}
 use Rattle.construct.proofs.Choosing.{pilots-least}
@@ -32,26 +32,26 @@ module _ (hashes : ℕ → List ℕ) where
       (omega (arith, r .1), r .0, λ q l. least-before (λ q. attemptOf (hashes q)) 8 0 i pl h q (omega arith) l)
 
   -- so every key is found at its index, every slot holds exactly one key, and the pilots are the least
-  pub taken-whole : ((i : ℕ) → 0 < length (hashes i)) → (i : ℕ) (pl : Placing) → constructOf hashes ≡ some (i, pl) → Whole (hashes i) pl × Pilots (hashes i) (pl .pilots)
+  pub taken-whole : ((i : ℕ) → 0 < length (hashes i)) → (i : ℕ) (pl : Placing) → constructOf hashes ≡ some (i, pl) → AllPlaced (hashes i) pl × Pilots (hashes i) (pl .pilots)
   taken-whole pos i pl h =
       let r = first-taken i pl h in
       (placed (hashes i) (pos i) pl (r .1), pilots-least (hashes i) (pos i) pl (r .1))
 
   -- 10 EXACTLY WHERE EACH OF THE EIGHT ATTEMPTS FAILS, of what the code answers
-  module _ (n : ℕ) (h w : List ℕ) (r : Constructed) (B : Built hashes n h w r) where
-    pub ten-fails : numberOf r ≡ 10 → (i : ℕ) → i < 8 → attemptOf (hashes i) ≡ none
-    ten-fails e = all-fail (unanswered (constructOf hashes) (ap numberOf (sym (B .answer)) ∙ e))
+  module _ (n : ℕ) (h w : List ℕ) (r : Constructed) (B : ConstructPost hashes n h w r) where
+    pub ten-fails : constructedNumber r ≡ 10 → (i : ℕ) → i < 8 → attemptOf (hashes i) ≡ none
+    ten-fails e = all-fail (unanswered (constructOf hashes) (ap constructedNumber (sym (B .answer)) ∙ e))
       where
-        unanswered : (o : Option (ℕ × Placing)) → numberOf (answerOf o) ≡ 10 → o ≡ none
+        unanswered : (o : Option (ℕ × Placing)) → constructedNumber (constructedOf o) ≡ 10 → o ≡ none
         unanswered none z = refl
         unanswered (some (i, pl)) z = absurd (omega arith)
 
-    pub fails-ten : ((i : ℕ) → i < 8 → attemptOf (hashes i) ≡ none) → numberOf r ≡ 10
-    fails-ten f = ap numberOf (B .answer ∙ ap answerOf (none-left f))
+    pub fails-ten : ((i : ℕ) → i < 8 → attemptOf (hashes i) ≡ none) → constructedNumber r ≡ 10
+    fails-ten f = ap constructedNumber (B .answer ∙ ap constructedOf (none-left f))
 
     -- 0, AND THE ATTEMPT, WHERE ONE IS TAKEN; 10 has no value
-    pub taken-values : (i : ℕ) (pl : Placing) → constructOf hashes ≡ some (i, pl) → (numberOf r ≡ 0) × (valuesOf r ≡ i ∷ [])
-    taken-values i pl e = let a = B .answer ∙ ap answerOf e in (ap numberOf a, ap valuesOf a)
+    pub taken-values : (i : ℕ) (pl : Placing) → constructOf hashes ≡ some (i, pl) → (constructedNumber r ≡ 0) × (constructedValues r ≡ i ∷ [])
+    taken-values i pl e = let a = B .answer ∙ ap constructedOf e in (ap constructedNumber a, ap constructedValues a)
 
-    pub ten-values : numberOf r ≡ 10 → valuesOf r ≡ []
-    ten-values e = ap valuesOf (B .answer ∙ ap answerOf (none-left (ten-fails e)))
+    pub ten-values : constructedNumber r ≡ 10 → constructedValues r ≡ []
+    ten-values e = ap constructedValues (B .answer ∙ ap constructedOf (none-left (ten-fails e)))

@@ -11,9 +11,10 @@ use native.Mathlib.Numerals.{lt-of-le-of-ne}
 use lib.ListN.{length, getD}
 use borrow.Author.Tests.{eq-eqb, eqb-true}
 use Rattle.mixing.specs.Mixing.{bucketOf, bucketOf-lt}
-use Rattle.mixing.specs.Slots.{some-buckets}
-use Rattle.laws.specs.Steps.{steps, steps-why, least, least-none, least-of-none, any-some, any-why}
-use Rattle.construct.specs.Construct.{bucketsOf, tries, members, group, size, alike, met, twins, twinsAt, anyTwins, seat, Placing, noted, placeGroup, placeOf, placeSize, placeDown, largest, blank, attemptFrom, attemptOf}
+use Rattle.mixing.proofs.SlotLaws.{some-buckets}
+use Rattle.laws.specs.Steps.{steps, least}
+use Rattle.laws.proofs.StepsLaws.{steps-why, least-none, least-of-none, any-some, any-why}
+use Rattle.construct.specs.Construct.{bucketsOf, tries, members, group, size, alike, met, twins, twinsAt, anyTwins, seat, Placing, pilotNoted, placeGroup, placeOf, placeSize, placeDown, largest, blank, attemptFrom, attemptOf}
 use Rattle.construct.specs.Promised.{Turn, EqualHashes, NoPilot, AttemptFails}
 use Rattle.construct.proofs.Placed.{member-of, key-place, of-skips, of-one, of-several}
 use Rattle.construct.proofs.PlacesLaws.{member-rank}
@@ -92,7 +93,7 @@ module _ (hs : List ℕ) (pos : 0 < length hs) where
   no-pilot-fails N =
       turn-fails hs pos (N .bucket) (N .low) (N .placing) (N .turn) (omega (arith, N .two))
       (of-several hs (size hs (N .bucket)) (N .bucket) (N .placing) refl (λ e. omega (arith, e, N .two))
-      ∙ ap (Option·map (noted (N .bucket) 0 (N .placing)))
+      ∙ ap (Option·map (pilotNoted (N .bucket) 0 (N .placing)))
       (least-of-none (λ p. seat hs (group hs (N .bucket)) p (size hs (N .bucket)) (N .placing .slots)) tries
       (λ p l. unfit hs (group hs (N .bucket)) p (N .placing .slots) (turn-spots hs pos (N .bucket) (N .low) (N .placing) (N .turn) p) (N .none-fits p (tried-low p l)))))
 
@@ -108,7 +109,7 @@ module _ (hs : List ℕ) (pos : 0 < length hs) where
     where
       none-fits : (size hs k ≡ 1 → ⊥) → (p : ℕ) → p < tries → seat hs (group hs k) p (size hs k) (pl .slots) ≡ none
       none-fits e p l =
-          let r = map-eq-none-iff (noted k 0 pl) (least (λ q. seat hs (group hs k) q (size hs k) (pl .slots)) tries 0) .0 (sym (of-several hs (size hs k) k pl refl e) ∙ h) in
+          let r = map-eq-none-iff (pilotNoted k 0 pl) (least (λ q. seat hs (group hs k) q (size hs k) (pl .slots)) tries 0) .0 (sym (of-several hs (size hs k) k pl refl e) ∙ h) in
           least-none (λ q. seat hs (group hs k) q (size hs k) (pl .slots)) tries 0 r p (omega arith) (omega arith)
 
       go : Dec (size hs k ≡ 1) → NoPilot hs

@@ -8,9 +8,9 @@ use native.Mathlib.Decide.{ℕ-discrete}
 use native.Mathlib.Numerals.{lt-of-le-of-ne}
 use lib.ListN.{length, getD, set, length-set}
 use lib.Seq.{getD-set-same, getD-set-other}
-use Rattle.laws.specs.Steps.{steps-none, steps-more, steps-keep}
+use Rattle.laws.proofs.StepsLaws.{steps-none, steps-more, steps-keep}
 use Rattle.construct.specs.Construct.{tries, settle, spot, seat}
-use Rattle.construct.specs.Promised.{Fits}
+use Rattle.construct.specs.Promised.{PilotFits}
 use Rattle.construct.proofs.SlotsLaws.{settle-free, settle-some}
 
 -- the pilots that are tried are 0 to 99,999
@@ -62,7 +62,7 @@ module _ (hs ms : List ℕ) (p : ℕ) (s : List ℕ) (low : (i : ℕ) → spot h
       theres i l (yes e) z = z .0 (ap (spot hs ms p) e)
       theres i l (no e) z = w .there i (lt-of-le-of-ne (omega arith) e) (z .1)
 
-  pub seat-fits : (t : List ℕ) → seat hs ms p (length ms) s ≡ some t → Fits hs ms p s
+  pub seat-fits : (t : List ℕ) → seat hs ms p (length ms) s ≡ some t → PilotFits hs ms p s
   unfolding seat
   seat-fits t h =
       let w = steps-keep (λ i. settle (spot hs ms p i) (getD ms i 0)) Sitting s start (length ms) (λ j l x y. sits-more j x y) (length ms) (omega arith) t h in
@@ -75,7 +75,7 @@ module _ (hs ms : List ℕ) (p : ℕ) (s : List ℕ) (low : (i : ℕ) → spot h
   Waiting : ℕ → Type 0
   Waiting j = (t : List ℕ) × (seat hs ms p j s ≡ some t) × ((a : ℕ) → ((i : ℕ) → i < j → a ≡ spot hs ms p i → ⊥) → getD t a 0 ≡ getD s a 0)
 
-  waits : Fits hs ms p s → (j : ℕ) → j ≤ length ms → Waiting j
+  waits : PilotFits hs ms p s → (j : ℕ) → j ≤ length ms → Waiting j
   unfolding seat Waiting
   waits F zero l = (s, steps-none (λ i. settle (spot hs ms p i) (getD ms i 0)) s, λ a z. refl)
   waits F (suc j) l = go (waits F j (omega arith))
@@ -88,19 +88,19 @@ module _ (hs ms : List ℕ) (p : ℕ) (s : List ℕ) (low : (i : ℕ) → spot h
             λ a z. getD-set-other t (spot hs ms p j) a (suc (getD ms j 0)) 0 (z j (omega arith)) ∙ same a (λ i li. z i (omega arith)),
           )
 
-  pub fits-seat : Fits hs ms p s → (t : List ℕ) × (seat hs ms p (length ms) s ≡ some t)
+  pub fits-seat : PilotFits hs ms p s → (t : List ℕ) × (seat hs ms p (length ms) s ≡ some t)
   unfolding Waiting
   fits-seat F =
       let w = waits F (length ms) (omega arith) in
       (w .0, w .1)
 
   -- so they are not seated exactly where they do not fit
-  pub unseated : seat hs ms p (length ms) s ≡ none → Fits hs ms p s → ⊥
+  pub unseated : seat hs ms p (length ms) s ≡ none → PilotFits hs ms p s → ⊥
   unseated h F =
       let w = fits-seat F in
       Option·some-ne-none (w .0) (sym (w .1) ∙ h)
 
-  pub unfit : (Fits hs ms p s → ⊥) → seat hs ms p (length ms) s ≡ none
+  pub unfit : (PilotFits hs ms p s → ⊥) → seat hs ms p (length ms) s ≡ none
   unfit no-fit = go (seat hs ms p (length ms) s) refl
     where
       go : (o : Option (List ℕ)) → seat hs ms p (length ms) s ≡ o → seat hs ms p (length ms) s ≡ none

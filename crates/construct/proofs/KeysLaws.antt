@@ -10,7 +10,7 @@ use lib.Seq.{take-suc-set}
 use Rattle.mixing.specs.Mixing.{hashOf}
 use Rattle.records.specs.Places.{keyAt, nextEntry, entryPlace}
 use Rattle.records.proofs.PassedLaws.{place-rises, place-next}
-use Rattle.construct.specs.Keys.{keyOf, hashesOf, Entries}
+use Rattle.construct.specs.Keys.{arenaKey, hashesOf, Entries}
 
 -- the entries begin at the start, and each where the last ends
 pub entry-first : (arena : List ℕ) → entryPlace arena 0 0 ≡ 0
@@ -48,4 +48,4 @@ hashes-more seed arena hs p i v l ep ev e =
 pub hashes-long : (seed : ℕ) (arena : List ℕ) (n : ℕ) → length (hashesOf seed arena n) ≡ n
 unfolding hashesOf
 hashes-long seed arena zero = refl
-hashes-long seed arena (suc n) = length-append (hashesOf seed arena n) (hashOf seed (keyOf arena n) ∷ []) ∙ omega (arith, hashes-long seed arena n)
+hashes-long seed arena (suc n) = length-append (hashesOf seed arena n) (hashOf seed (arenaKey arena n) ∷ []) ∙ omega (arith, hashes-long seed arena n)

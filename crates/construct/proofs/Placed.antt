@@ -14,10 +14,11 @@ use lib.Seq.{getD-set-same, getD-set-other}
 use lib.Dec.{eqb, ltb, lit≤}
 use borrow.Author.Tests.{eq-eqb, ne-eqb, lt-ltb, le-ltb}
 use Rattle.mixing.specs.Mixing.{bucketOf, positionOf, bucketOf-lt, positionOf-lt}
-use Rattle.mixing.specs.Slots.{some-buckets}
-use Rattle.laws.specs.Steps.{steps, steps-keep, least, least-found, least-none, total, total-bump, total-same, total-zero, total-mono, greatest, greatest-above}
-use Rattle.construct.specs.Construct.{bucketsOf, tries, direct, members, group, size, settle, spot, seat, Placing, noted, placeGroup, placeSingle, placeOf, placeSize, placeDown, largest, blank, anyTwins, attemptFrom, attemptOf, slotBy, indexOf}
-use Rattle.construct.specs.Promised.{Whole}
+use Rattle.mixing.proofs.SlotLaws.{some-buckets}
+use Rattle.laws.specs.Steps.{steps, least, total, maximum}
+use Rattle.laws.proofs.StepsLaws.{steps-keep, least-found, least-none, total-bump, total-same, total-zero, total-mono, maximum-above}
+use Rattle.construct.specs.Construct.{bucketsOf, tries, direct, members, group, size, settle, spot, seat, Placing, pilotNoted, placeGroup, placeSingle, placeOf, placeSize, placeDown, largest, blank, anyTwins, attemptFrom, attemptOf, slotBy, indexOf}
+use Rattle.construct.specs.Promised.{AllPlaced}
 use Rattle.construct.proofs.MembersLaws.{member-key, member-at, count-all}
 use Rattle.construct.proofs.SlotsLaws.{filled, filled-none, some-free, none-free, settle-free, Grown, Since, Settled, settled, Seated, seated}
 
@@ -121,9 +122,9 @@ module _ (hs : List ℕ) (pos : 0 < length hs) (D D′ : ℕ → Bool) (k : ℕ)
       bump = ap (λ (t : Bool). cond t (size hs k) 0) now-so ∙ sym (ap (λ (t : Bool). cond t (size hs k) 0 + size hs k) not-yet ∙ omega arith)
 
   group-joins : (pl pl′ : Placing) → Partly hs D pl → placeGroup hs k pl ≡ some pl′ → Partly hs D′ pl′
-  unfolding placeGroup noted spot
+  unfolding placeGroup pilotNoted spot
   group-joins pl pl′ w h =
-      let r = map-eq-some-iff (noted k 0 pl) (least try tries 0) .0 h in
+      let r = map-eq-some-iff (pilotNoted k 0 pl) (least try tries 0) .0 h in
       let f = least-found try tries 0 (r .0 .0) (r .0 .1) (r .1) in
       subst (λ (x : Placing). Partly hs D′ x) (r .2) (done (r .0 .0) (r .0 .1) (f .0) (omega (arith, f .1, few)))
     where
@@ -150,9 +151,9 @@ module _ (hs : List ℕ) (pos : 0 < length hs) (D D′ : ℕ → Bool) (k : ℕ)
               (subst (λ (x : ℕ). x < length hs) (sym (q .3)) (i .0), ap (λ (x : ℕ). bucketOf (getD hs x 0) (bucketsOf (length hs))) (q .3) ∙ i .1, goes m ∙ ap (λ (x : ℕ). positionOf (getD hs x 0) p (length hs)) (q .3) ∙ sym (q .2))
 
   single-joins : (pl pl′ : Placing) → size hs k ≡ 1 → Partly hs D pl → placeSingle hs k pl ≡ some pl′ → Partly hs D′ pl′
-  unfolding placeSingle noted
+  unfolding placeSingle pilotNoted
   single-joins pl pl′ one w h =
-      let r = map-eq-some-iff (noted k direct pl) (least try (length hs) 0) .0 h in
+      let r = map-eq-some-iff (pilotNoted k direct pl) (least try (length hs) 0) .0 h in
       let f = least-found try (length hs) 0 (r .0 .0) (r .0 .1) (r .1) in
       subst (λ (x : Placing). Partly hs D′ x) (r .2) (done (r .0 .0) (r .0 .1) (f .0) (omega (arith, f .1)))
     where
@@ -184,7 +185,7 @@ module _ (hs : List ℕ) (pos : 0 < length hs) (D D′ : ℕ → Bool) (k : ℕ)
   pub single-finds : (pl : Placing) → size hs k ≡ 1 → Partly hs D pl → placeSingle hs k pl ≡ none → ⊥
   unfolding placeSingle
   single-finds pl one w h =
-      let r = map-eq-none-iff (noted k direct pl) (least (λ at. settle at (getD (group hs k) 0 0) (pl .slots)) (length hs) 0) .0 h in
+      let r = map-eq-none-iff (pilotNoted k direct pl) (least (λ at. settle at (getD (group hs k) 0 0) (pl .slots)) (length hs) 0) .0 h in
       let q = some-free (pl .slots) (omega (arith, room, w .slots-long)) in
       Option·some-ne-none (set (pl .slots) (q .0) (suc (getD (group hs k) 0 0)))
       (sym (settle-free (q .0) (getD (group hs k) 0 0) (pl .slots) (q .2)) ∙ least-none (λ at. settle at (getD (group hs k) 0 0) (pl .slots)) (length hs) 0 r (q .0) (omega arith) (omega (arith, q .1, w .slots-long)))
@@ -328,12 +329,12 @@ module _ (hs : List ℕ) (pos : 0 < length hs) where
       t lt pl h
     where
       L : ℕ
-      L = greatest (size hs) (bucketsOf (length hs))
+      L = maximum (size hs) (bucketsOf (length hs))
 
       start : (k : ℕ) → k < bucketsOf (length hs) → false ≡ done hs L 0 k
-      start k l = sym (done-none hs L k (greatest-above (size hs) (bucketsOf (length hs)) k l))
+      start k l = sym (done-none hs L k (maximum-above (size hs) (bucketsOf (length hs)) k l))
 
-  all-placed : (pl : Placing) → Partly hs (done hs 0 0) pl → Whole hs pl
+  all-placed : (pl : Placing) → Partly hs (done hs 0 0) pl → AllPlaced hs pl
   all-placed pl w = record {
     pilots-long = w .pilots-long;
     slots-long = w .slots-long;
@@ -367,10 +368,10 @@ module _ (hs : List ℕ) (pos : 0 < length hs) where
           (i, r .0, e, r .2)
 
   -- where an attempt succeeds, every key is found at its index, and every slot holds exactly one key
-  pub placed : (pl : Placing) → attemptOf hs ≡ some pl → Whole hs pl
+  pub placed : (pl : Placing) → attemptOf hs ≡ some pl → AllPlaced hs pl
   unfolding attemptOf attemptFrom
   placed pl h = go (anyTwins hs) h
     where
-      go : (t : Bool) → cond t none (steps (placeDown hs (largest hs)) (largest hs) (blank hs)) ≡ some pl → Whole hs pl
+      go : (t : Bool) → cond t none (steps (placeDown hs (largest hs)) (largest hs) (blank hs)) ≡ some pl → AllPlaced hs pl
       go true e = absurd (Option·none-ne-some pl e)
       go false e = all-placed pl (subst (λ (x : ℕ). Partly hs (done hs x 0) pl) (omega arith) (passes-partly (largest hs) (omega arith) pl e))

@@ -8,9 +8,9 @@ use native.Mathlib.Numerals.{add-one, lt-of-le-of-ne}
 use native.Mathlib.Omega.{arith}
 use lib.ListN.{length, getD, set}
 use lib.Seq.{set-set, set-getD}
-use Rattle.laws.specs.Steps.{steps-none, steps-more, steps-failed, steps-last, least-at, least-of-none}
+use Rattle.laws.proofs.StepsLaws.{steps-none, steps-more, steps-failed, steps-last, least-at, least-of-none}
 use Rattle.construct.specs.Construct.{tries, settle, spot, seat}
-use Rattle.construct.specs.Seating.{SeatedTo, Tried, Searched}
+use Rattle.construct.specs.Seating.{SeatedTo, SeatTried, PilotSearched}
 use Rattle.construct.proofs.SlotsLaws.{settle-free, settle-taken, settle-some}
 
 module _ (hs ms : List ℕ) (p : ℕ) where
@@ -61,24 +61,24 @@ module _ (hs ms : List ℕ) (p : ℕ) where
       seat-fails r (length ms) s (w .stuck l) l
 
 -- what a try answers, of slots s that are s₀
-pub tried-yes : (hs ms : List ℕ) (p : ℕ) (s₀ s t : List ℕ) (r : Bool) → s ≡ s₀ → Tried (seat hs ms p (length ms) s) s t r → r ≡ true → seat hs ms p (length ms) s₀ ≡ some t
+pub tried-yes : (hs ms : List ℕ) (p : ℕ) (s₀ s t : List ℕ) (r : Bool) → s ≡ s₀ → SeatTried (seat hs ms p (length ms) s) s t r → r ≡ true → seat hs ms p (length ms) s₀ ≡ some t
 tried-yes hs ms p s₀ s t true w h e = ap (seat hs ms p (length ms)) (sym w) ∙ h
 tried-yes hs ms p s₀ s t false w h e = absurd (false≢true e)
 
-pub tried-no : (hs ms : List ℕ) (p : ℕ) (s₀ s t : List ℕ) (r : Bool) → s ≡ s₀ → Tried (seat hs ms p (length ms) s) s t r → r ≡ false → (seat hs ms p (length ms) s₀ ≡ none) × (t ≡ s₀)
+pub tried-no : (hs ms : List ℕ) (p : ℕ) (s₀ s t : List ℕ) (r : Bool) → s ≡ s₀ → SeatTried (seat hs ms p (length ms) s) s t r → r ≡ false → (seat hs ms p (length ms) s₀ ≡ none) × (t ≡ s₀)
 tried-no hs ms p s₀ s t true w h e = absurd (false≢true (sym e))
 tried-no hs ms p s₀ s t false w h e = (ap (seat hs ms p (length ms)) (sym w) ∙ h .0, h .1 ∙ w)
 
 -- the least pilot found, after those that failed; and none found
 module _ (hs ms s : List ℕ) (p : ℕ) (failed : (q : ℕ) → q < p → seat hs ms q (length ms) s ≡ none) where
-  pub search-hit : (t : List ℕ) → p < tries → seat hs ms p (length ms) s ≡ some t → Searched hs ms s t p
+  pub search-hit : (t : List ℕ) → p < tries → seat hs ms p (length ms) s ≡ some t → PilotSearched hs ms s t p
   search-hit t l h = record {
     most = omega arith;
     hit = λ _. least-at (λ q. seat hs ms q (length ms) s) tries p t l failed h;
     miss = λ e. absurd (omega arith);
   }
 
-  pub search-miss : (t : List ℕ) → t ≡ s → p ≡ tries → Searched hs ms s t p
+  pub search-miss : (t : List ℕ) → t ≡ s → p ≡ tries → PilotSearched hs ms s t p
   search-miss t w e = record {
     most = omega arith;
     hit = λ l. absurd (omega arith);

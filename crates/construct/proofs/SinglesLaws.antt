@@ -10,9 +10,9 @@ use native.Mathlib.Numerals.{add-one, lt-of-le-of-ne}
 use native.Mathlib.Omega.{arith}
 use lib.ListN.{length, getD, set, take, drop}
 use lib.Seq.{getD-take, getD-drop, getD-set-same, getD-set-other, take-set-le}
-use Rattle.laws.specs.Steps.{least-at, least-of-none}
-use Rattle.construct.specs.Construct.{direct, group, size, settle, noted, placeSingle, placeOf}
-use Rattle.construct.specs.Layout.{placing, Bench, Stepped, Taken, Lowest, SingleOf}
+use Rattle.laws.proofs.StepsLaws.{least-at, least-of-none}
+use Rattle.construct.specs.Construct.{direct, group, size, settle, pilotNoted, placeSingle, placeOf}
+use Rattle.construct.specs.Layout.{placing, Bench, Stepped, FilledBelow, Lowest, SingleOf}
 use Rattle.construct.proofs.Placed.{member-of, of-one}
 use Rattle.construct.proofs.SlotsLaws.{settle-free, settle-taken}
 use Rattle.construct.proofs.PartsLaws.{part, set-inside, set-before, set-behind}
@@ -36,14 +36,14 @@ module _ (h w : List ℕ) (n b : ℕ) (B : Bench h w n b) (k : ℕ) (l : k < b) 
   as-single = of-one (take n h) 1 k (placing n b w) (sym (bench-size h w n b B k l) ∙ one) refl
 
   -- no slot is free
-  pub single-none : Taken (part (b + 1 + b) n w) n → placeOf (take n h) 1 k (placing n b w) ≡ none
+  pub single-none : FilledBelow (part (b + 1 + b) n w) n → placeOf (take n h) 1 k (placing n b w) ≡ none
   unfolding placeSingle placing
   single-none t =
-      as-single ∙ ap (Option·map (noted k direct (placing n b w)))
+      as-single ∙ ap (Option·map (pilotNoted k direct (placing n b w)))
       (least-of-none (λ at. settle at (getD (group (take n h) k) 0 0) (part (b + 1 + b) n w)) (length (take n h)) (λ q z. settle-taken q (getD (group (take n h) k) 0 0) (part (b + 1 + b) n w) (t q (omega (arith, bench-keys h w n b B)))))
 
   -- slot `at` is the lowest free one
-  module _ (at : ℕ) (low : at < n) (t : Taken (part (b + 1 + b) n w) at) (free : getD (part (b + 1 + b) n w) at 0 ≡ 0) where
+  module _ (at : ℕ) (low : at < n) (t : FilledBelow (part (b + 1 + b) n w) at) (free : getD (part (b + 1 + b) n w) at 0 ≡ 0) where
     v : ℕ
     v = getD h (n + getD w k 0) 0 + 1
 
@@ -59,10 +59,10 @@ module _ (h w : List ℕ) (n b : ℕ) (B : Bench h w n b) (k : ℕ) (l : k < b) 
     pilots = set-inside (set w (b + 1 + b + at) v) (b + 1) b k (direct + at) l ∙ ap (λ (x : List ℕ). set x k (direct + at)) (set-behind w (b + 1) b (b + 1 + b + at) v (omega arith))
 
     pub single-some : Stepped (placeOf (take n h) 1 k (placing n b w)) n b w (set (set w (b + 1 + b + at) (getD h (n + getD w k 0) 0 + 1)) (b + 1 + k) (direct + at)) true
-    unfolding placeSingle placing noted after v
+    unfolding placeSingle placing pilotNoted after v
     single-some = (
       as-single
-          ∙ ap (Option·map (noted k direct (placing n b w)))
+          ∙ ap (Option·map (pilotNoted k direct (placing n b w)))
           (least-at (λ a. settle a m (part (b + 1 + b) n w)) (length (take n h)) at (set (part (b + 1 + b) n w) at (suc m)) (omega (arith, bench-keys h w n b B))
           (λ q z. settle-taken q m (part (b + 1 + b) n w) (t q z)) (settle-free at m (part (b + 1 + b) n w) free))
           ∙ ap some (same-placing _ _ _ _ (sym pilots) (ap (set (part (b + 1 + b) n w) at) (sym value) ∙ sym slots)),
@@ -75,7 +75,7 @@ module _ (h w : List ℕ) (n b : ℕ) (B : Bench h w n b) (k : ℕ) (l : k < b) 
         value : v ≡ suc m
         value = ap (λ (x : ℕ). x + 1) single-member ∙ add-one m
 
-    pub single-taken : Taken (placing n b (set (set w (b + 1 + b + at) (getD h (n + getD w k 0) 0 + 1)) (b + 1 + k) (direct + at)) .slots) (at + 1)
+    pub single-taken : FilledBelow (placing n b (set (set w (b + 1 + b + at) (getD h (n + getD w k 0) 0 + 1)) (b + 1 + k) (direct + at)) .slots) (at + 1)
     unfolding placing after v
     single-taken x lx e = go (ℕ-discrete x at)
       where
@@ -88,13 +88,13 @@ module _ (h w : List ℕ) (n b : ℕ) (B : Bench h w n b) (k : ℕ) (l : k < b) 
 
 -- what the pass of single buckets answers of bucket k, with m the length of the lent slots, which is n
 module _ (h w : List ℕ) (n b : ℕ) (B : Bench h w n b) (k : ℕ) (l : k < b) where
-  pub single-other : (from : ℕ) → from ≤ n → Taken (placing n b w .slots) from → (getD w (k + 1) 0 - getD w k 0 ≡ 1 → ⊥) → SingleOf (take n h) k n b w w from
+  pub single-other : (from : ℕ) → from ≤ n → FilledBelow (placing n b w .slots) from → (getD w (k + 1) 0 - getD w k 0 ≡ 1 → ⊥) → SingleOf (take n h) k n b w w from
   single-other from le t z = record { went = λ _. of-other h w n b B k l 1 z; taken = λ _. t; failed = λ q. absurd (omega arith) }
 
   module _ (m : ℕ) (em : m ≡ n) where
-    pub lent-taken : (from : ℕ) → from ≤ n → Taken (placing n b w .slots) from → (from ≤ length (part (b + 1 + b) m w)) × Taken (part (b + 1 + b) m w) from
+    pub lent-taken : (from : ℕ) → from ≤ n → FilledBelow (placing n b w .slots) from → (from ≤ length (part (b + 1 + b) m w)) × FilledBelow (part (b + 1 + b) m w) from
     unfolding placing
-    lent-taken from le t = subst (λ (x : ℕ). (from ≤ length (part (b + 1 + b) x w)) × Taken (part (b + 1 + b) x w) from) (sym em) (omega (arith, bench-slots h w n b B k l), t)
+    lent-taken from le t = subst (λ (x : ℕ). (from ≤ length (part (b + 1 + b) x w)) × FilledBelow (part (b + 1 + b) x w) from) (sym em) (omega (arith, bench-slots h w n b B k l), t)
 
     module _ (one : getD w (k + 1) 0 - getD w k 0 ≡ 1) (at : ℕ) (low : Lowest (part (b + 1 + b) m w) at) where
       low-n : Lowest (part (b + 1 + b) n w) at
@@ -104,7 +104,7 @@ module _ (h w : List ℕ) (n b : ℕ) (B : Bench h w n b) (k : ℕ) (l : k < b) 
       single-full e = record {
         went = λ q. absurd (omega arith);
         taken = λ q. absurd (omega arith);
-        failed = λ _. single-none h w n b B k l one (subst (Taken (part (b + 1 + b) n w)) e (low-n .taken));
+        failed = λ _. single-none h w n b B k l one (subst (FilledBelow (part (b + 1 + b) n w)) e (low-n .taken));
       }
 
       pub single-low : (at ≡ n → ⊥) → at < n

@@ -11,7 +11,7 @@ use native.Mathlib.Numerals.{lt-of-le-of-ne}
 use lib.ListN.{length, getD, set, replicate, length-set}
 use lib.Seq.{getD-set-same, getD-set-other}
 use borrow.Author.Tests.{eq-eqb, ne-eqb}
-use Rattle.laws.specs.Steps.{steps-keep}
+use Rattle.laws.proofs.StepsLaws.{steps-keep}
 use Rattle.construct.specs.Construct.{settle, spot, seat}
 
 -- how many slots are not free

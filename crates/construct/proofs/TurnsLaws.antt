@@ -7,7 +7,8 @@ use mathlib.Core.Option.{none}
 use native.Mathlib.Omega.{arith}
 use lib.ListN.{length, getD}
 use Rattle.mixing.specs.Mixing.{positionOf-lt}
-use Rattle.laws.specs.Steps.{steps, steps-more, steps-failed, greatest-above}
+use Rattle.laws.specs.Steps.{steps}
+use Rattle.laws.proofs.StepsLaws.{steps-more, steps-failed, maximum-above}
 use Rattle.construct.specs.Construct.{bucketsOf, group, size, spot, Placing, placeSingle, placeOf, placeSize, placeDown, largest, blank, anyTwins, attemptFrom, attemptOf}
 use Rattle.construct.specs.Promised.{Turn}
 use Rattle.construct.proofs.Placed.{Partly, done, done-not-yet, done-now, done-others, size-partly, passes-partly, single-finds}
@@ -15,7 +16,7 @@ use Rattle.construct.proofs.Placed.{Partly, done, done-not-yet, done-no
 module _ (hs : List ℕ) (pos : 0 < length hs) (k : ℕ) (low : k < bucketsOf (length hs)) where
   pub size-most : size hs k ≤ largest hs
   unfolding largest
-  size-most = greatest-above (size hs) (bucketsOf (length hs)) k low
+  size-most = maximum-above (size hs) (bucketsOf (length hs)) k low
 
   module _ (pl : Placing) (T : Turn hs k pl) where
     -- the larger buckets are placed, and of its size those of lower number

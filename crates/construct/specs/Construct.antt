@@ -6,7 +6,7 @@ use mathlib.Core.Option.{Option, none, some, Option·map}
 use lib.ListN.{length, getD, set, replicate}
 use lib.Dec.{eqb}
 use Rattle.mixing.specs.Mixing.{bucketOf, positionOf}
-use Rattle.laws.specs.Steps.{steps, least, anyBelow, greatest}
+use Rattle.laws.specs.Steps.{steps, least, anyBelow, maximum}
 -- the buckets of n keys, the mark of a pilot that names a slot, and the slot that a pilot gives a hash
 unfoldable pub use Rattle.mixing.specs.Slots.{bucketsOf, direct, slotBy}
 
@@ -69,16 +69,16 @@ pub record Placing : Type 0 where
   pub slots : List ℕ
 
 -- bucket k gets its pilot, and the slots that come with it
-unfoldable pub noted : ℕ → ℕ → Placing → ℕ × List ℕ → Placing
-noted k mark pl found = record { pilots = set (pl .pilots) k (mark + found .0); slots = found .1 }
+unfoldable pub pilotNoted : ℕ → ℕ → Placing → ℕ × List ℕ → Placing
+pilotNoted k mark pl found = record { pilots = set (pl .pilots) k (mark + found .0); slots = found .1 }
 
 -- bucket k takes its least pilot that puts its members on distinct unoccupied positions
 unfoldable pub placeGroup : List ℕ → ℕ → Placing → Option Placing
-placeGroup hs k pl = Option·map (noted k 0 pl) (least (λ p. seat hs (group hs k) p (size hs k) (pl .slots)) tries 0)
+placeGroup hs k pl = Option·map (pilotNoted k 0 pl) (least (λ p. seat hs (group hs k) p (size hs k) (pl .slots)) tries 0)
 
 -- a single-member bucket takes the lowest free slot, written as 2^31 + slot
 unfoldable pub placeSingle : List ℕ → ℕ → Placing → Option Placing
-placeSingle hs k pl = Option·map (noted k direct pl) (least (λ at. settle at (getD (group hs k) 0 0) (pl .slots)) (length hs) 0)
+placeSingle hs k pl = Option·map (pilotNoted k direct pl) (least (λ at. settle at (getD (group hs k) 0 0) (pl .slots)) (length hs) 0)
 
 -- bucket k placed, if its size is s
 unfoldable pub placeOf : List ℕ → ℕ → ℕ → Placing → Option Placing
@@ -94,7 +94,7 @@ placeDown hs top t = placeSize hs (top - t)
 
 -- the greatest size of a bucket
 unfoldable pub largest : List ℕ → ℕ
-largest hs = greatest (size hs) (bucketsOf (length hs))
+largest hs = maximum (size hs) (bucketsOf (length hs))
 
 -- no slot taken, and every pilot 0, as it stays for empty buckets
 unfoldable pub blank : List ℕ → Placing

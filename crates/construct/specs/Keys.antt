@@ -6,13 +6,13 @@ use Rattle.mixing.specs.Mixing.{hashOf, seedOf}
 use Rattle.records.specs.Places.{keyAt, entryPlace}
 
 -- key i of an arena
-abbrev pub keyOf : List ℕ → ℕ → List ℕ
-keyOf arena i = keyAt arena (entryPlace arena 0 i)
+abbrev pub arenaKey : List ℕ → ℕ → List ℕ
+arenaKey arena i = keyAt arena (entryPlace arena 0 i)
 
 -- the hashes of the first n keys under a seed
 unfoldable pub hashesOf : ℕ → List ℕ → ℕ → List ℕ
 hashesOf seed arena zero = []
-hashesOf seed arena (suc i) = hashesOf seed arena i ++ (hashOf seed (keyOf arena i) ∷ [])
+hashesOf seed arena (suc i) = hashesOf seed arena i ++ (hashOf seed (arenaKey arena i) ∷ [])
 
 -- the hashes under the seed of attempt i
 unfoldable pub attemptHashes : List ℕ → ℕ → ℕ → List ℕ

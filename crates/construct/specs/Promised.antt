@@ -10,7 +10,7 @@ use Rattle.laws.specs.Steps.{steps}
 use Rattle.construct.specs.Construct.{bucketsOf, direct, group, size, spot, Placing, placeOf, placeDown, largest, blank, indexOf}
 
 -- pilot p puts the keys ms on distinct unoccupied positions
-pub record Fits (hs ms : List ℕ) (p : ℕ) (slots : List ℕ) : Type 0 where
+pub record PilotFits (hs ms : List ℕ) (p : ℕ) (slots : List ℕ) : Type 0 where
   pub unoccupied : (j : ℕ) → j < length ms → getD slots (spot hs ms p j) 0 ≡ 0
   pub distinct : (i j : ℕ) → i < j → j < length ms → spot hs ms p i ≡ spot hs ms p j → ⊥
 
@@ -36,14 +36,14 @@ pub record NoPilot (hs : List ℕ) : Type 0 where
   pub two : 1 < size hs bucket
   pub placing : Placing
   pub turn : Turn hs bucket placing
-  pub none-fits : (p : ℕ) → p ≤ 99999 → Fits hs (group hs bucket) p (placing .slots) → ⊥
+  pub none-fits : (p : ℕ) → p ≤ 99999 → PilotFits hs (group hs bucket) p (placing .slots) → ⊥
 
 -- an attempt fails if two members of a bucket have equal hashes, or if a bucket of two or more finds no pilot
 abbrev pub AttemptFails : List ℕ → Type 0
 AttemptFails hs = EqualHashes hs ⊎ NoPilot hs
 
 -- every key is found at its index, and every slot holds exactly one key
-pub record Whole (hs : List ℕ) (pl : Placing) : Type 0 where
+pub record AllPlaced (hs : List ℕ) (pl : Placing) : Type 0 where
   pub pilots-long : length (pl .pilots) ≡ bucketsOf (length hs)
   pub slots-long : length (pl .slots) ≡ length hs
   pub found : (i : ℕ) → i < length hs → getD (pl .slots) (indexOf (getD hs i 0) (pl .pilots) (length hs)) 0 ≡ suc i
@@ -54,8 +54,8 @@ pub record LeastPilot (hs : List ℕ) (k v : ℕ) : Type 0 where
   pub placing : Placing
   pub turn : Turn hs k placing
   pub tried : v ≤ 99999
-  pub fits : Fits hs (group hs k) v (placing .slots)
-  pub least : (q : ℕ) → q < v → Fits hs (group hs k) q (placing .slots) → ⊥
+  pub fits : PilotFits hs (group hs k) v (placing .slots)
+  pub least : (q : ℕ) → q < v → PilotFits hs (group hs k) q (placing .slots) → ⊥
 
 -- v names the lowest free slot, for bucket k of one member
 pub record LowestSlot (hs : List ℕ) (k v : ℕ) : Type 0 where

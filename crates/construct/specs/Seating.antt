@@ -15,7 +15,7 @@ pub record Keys (hs ms : List ℕ) : Type 0 where
   pub keys : (j : ℕ) → j < length ms → getD ms j 0 < length hs
 
 -- the same, and as many slots as keys
-pub record Ready (hs ms slots : List ℕ) : Type 0 where
+pub record SeatsReady (hs ms slots : List ℕ) : Type 0 where
   pub of : Keys hs ms
   pub same : length slots ≡ length hs
 
@@ -26,12 +26,12 @@ pub record SeatedTo (hs ms : List ℕ) (p : ℕ) (before after : List ℕ) (r : 
   pub stuck : r < length ms → seat hs ms p (suc r) before ≡ none
 
 -- a try that answers whether it succeeded, and changes nothing where it did not
-abbrev pub Tried : Option (List ℕ) → List ℕ → List ℕ → Bool → Type 0
-Tried o before after true = o ≡ some after
-Tried o before after false = (o ≡ none) × (after ≡ before)
+abbrev pub SeatTried : Option (List ℕ) → List ℕ → List ℕ → Bool → Type 0
+SeatTried o before after true = o ≡ some after
+SeatTried o before after false = (o ≡ none) × (after ≡ before)
 
 -- the least pilot, and the slots after it; or, at `tries`, that there is none, and the slots as they were
-pub record Searched (hs ms : List ℕ) (before after : List ℕ) (r : ℕ) : Type 0 where
+pub record PilotSearched (hs ms : List ℕ) (before after : List ℕ) (r : ℕ) : Type 0 where
   pub most : r ≤ tries
   pub hit : r < tries → least (λ p. seat hs ms p (length ms) before) tries 0 ≡ some (r, after)
   pub miss : r ≡ tries → (least (λ p. seat hs ms p (length ms) before) tries 0 ≡ none) × (after ≡ before)

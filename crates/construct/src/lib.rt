@@ -11,7 +11,7 @@ pub mod twins;
 use attempt::attempt;
 use mixing::slot::buckets;
 ghost use Rattle.construct.specs.Keys.{attemptHashes};
-ghost use Rattle.construct.specs.Layout.{Lent, Built};
+ghost use Rattle.construct.specs.Layout.{Lent, ConstructPost};
 
 // What construct answers: the attempt that is taken, from 0, or that every attempt failed.
 pub enum Constructed {
@@ -30,7 +30,7 @@ impl Constructed {
 // Places the first n keys of the arena under the first seed that serves. Where one does, its hashes, pilots and slots are left in the workspace.
 pub fn construct(arena: &[u8], h: &mut [u64], w: &mut [u32], n: usize) -> Constructed
     requires { ⌜ Lent (now arena) (now h) (now w) n ⌝ }
-    ensures { λ r. ⌜ Built (attemptHashes (now (arena .entry)) n) n (now (h .exit)) (now (w .exit)) r ⌝ }
+    ensures { λ r. ⌜ ConstructPost (attemptHashes (now (arena .entry)) n) n (now (h .exit)) (now (w .exit)) r ⌝ }
 {
     let b = buckets(n);
     let mut i = 0;

@@ -6,7 +6,7 @@ ghost use mathlib.Core.Option.{some};
 ghost use Prim.Native.Nat.{ℕ, _<_, _≤_};
 ghost use lib.ListN.{length, getD};
 ghost use Rattle.construct.specs.Construct.{seat, spot};
-ghost use Rattle.construct.specs.Seating.{Keys, Ready, SeatedTo, Tried, Searched};
+ghost use Rattle.construct.specs.Seating.{Keys, SeatsReady, SeatedTo, SeatTried, PilotSearched};
 
 // The hash of member j.
 pub fn hash_of(hs: &[u64], ms: &[u64], j: usize) -> u64
@@ -30,7 +30,7 @@ fn spot_of(hs: &[u64], ms: &[u64], j: usize, pilot: u32) -> usize
 
 // Seats the members one after another until one finds its slot taken, and answers how many sit.
 fn seat_members(hs: &[u64], ms: &[u64], slots: &mut [u32], pilot: u32) -> usize
-    requires { ⌜ Ready (now hs) (now ms) (now slots) ⌝ }
+    requires { ⌜ SeatsReady (now hs) (now ms) (now slots) ⌝ }
     ensures { λ r. ⌜ SeatedTo (now (hs .entry)) (now (ms .entry)) pilot (now (slots .entry)) (now (slots .exit)) r ⌝ }
 {
     let mut j = 0;
@@ -47,7 +47,7 @@ fn seat_members(hs: &[u64], ms: &[u64], slots: &mut [u32], pilot: u32) -> usize
 
 // Takes the first `count` members off their slots again.
 fn unseat(hs: &[u64], ms: &[u64], slots: &mut [u32], pilot: u32, count: usize)
-    requires { ⌜ Ready (now hs) (now ms) (now slots) ⌝ }
+    requires { ⌜ SeatsReady (now hs) (now ms) (now slots) ⌝ }
     requires { ⌜ count ≤ length (now ms) ⌝ }
     ensures { λ _. ⌜ ((s : List ℕ) → seat (now (hs .entry)) (now (ms .entry)) pilot count s ≡ some (now (slots .entry)) → now (slots .exit) ≡ s) ⌝ }
 {
@@ -61,8 +61,8 @@ fn unseat(hs: &[u64], ms: &[u64], slots: &mut [u32], pilot: u32, count: usize)
 
 // Seats all members under a pilot, or none.
 fn try_pilot(hs: &[u64], ms: &[u64], slots: &mut [u32], pilot: u32) -> bool
-    requires { ⌜ Ready (now hs) (now ms) (now slots) ⌝ }
-    ensures { λ r. ⌜ Tried (seat (now (hs .entry)) (now (ms .entry)) pilot (length (now (ms .entry))) (now (slots .entry))) (now (slots .entry)) (now (slots .exit)) r ⌝ }
+    requires { ⌜ SeatsReady (now hs) (now ms) (now slots) ⌝ }
+    ensures { λ r. ⌜ SeatTried (seat (now (hs .entry)) (now (ms .entry)) pilot (length (now (ms .entry))) (now (slots .entry))) (now (slots .entry)) (now (slots .exit)) r ⌝ }
 {
     let sat = seat_members(hs, ms, slots, pilot);
     if sat == ms.len() {
@@ -74,8 +74,8 @@ fn try_pilot(hs: &[u64], ms: &[u64], slots: &mut [u32], pilot: u32) -> bool
 
 // Seats all members under the least pilot that takes them, and answers it, or TRIES where there is none.
 pub fn find_pilot(hs: &[u64], ms: &[u64], slots: &mut [u32]) -> u32
-    requires { ⌜ Ready (now hs) (now ms) (now slots) ⌝ }
-    ensures { λ r. ⌜ Searched (now (hs .entry)) (now (ms .entry)) (now (slots .entry)) (now (slots .exit)) r ⌝ }
+    requires { ⌜ SeatsReady (now hs) (now ms) (now slots) ⌝ }
+    ensures { λ r. ⌜ PilotSearched (now (hs .entry)) (now (ms .entry)) (now (slots .entry)) (now (slots .exit)) r ⌝ }
 {
     let mut p: u32 = 0;
     while p < Constructed::TRIES {

@@ -4,11 +4,11 @@ ghost use mathlib.Core.Path.{_≡_};
 ghost use Prim.Native.Nat.{ℕ, _<_, _≤_, _+_, _-_};
 ghost use lib.ListN.{length, getD, set, take};
 ghost use Rattle.construct.specs.Construct.{direct, placeSize};
-ghost use Rattle.construct.specs.Layout.{placing, Bench, Stepped, Taken, Lowest, SingleOf};
+ghost use Rattle.construct.specs.Layout.{placing, Bench, Stepped, FilledBelow, Lowest, SingleOf};
 
 // The lowest free slot, where those below `from` are taken.
 fn next_free(slots: &[u32], from: usize) -> usize
-    requires { ⌜ (from ≤ length (now slots)) × Taken (now slots) from ⌝ }
+    requires { ⌜ (from ≤ length (now slots)) × FilledBelow (now slots) from ⌝ }
     ensures { λ r. ⌜ Lowest (now (slots .entry)) r ⌝ }
 {
     let mut at = from;
@@ -36,7 +36,7 @@ fn put_single(h: &[u64], w: &mut [u32], n: usize, b: usize, k: usize, at: usize)
 // Places bucket k if it has one member, and answers how far the slots are taken, or more than n where none is free.
 fn single_of(h: &[u64], w: &mut [u32], n: usize, b: usize, k: usize, from: usize) -> usize
     requires { ⌜ Bench (now h) (now w) n b ⌝ }
-    requires { ⌜ (k < b) × (from ≤ n) × Taken (placing n b (now w) .slots) from ⌝ }
+    requires { ⌜ (k < b) × (from ≤ n) × FilledBelow (placing n b (now w) .slots) from ⌝ }
     ensures { λ r. ⌜ SingleOf (take n (now (h .entry))) k n b (now (w .entry)) (now (w .exit)) r ⌝ }
 {
     if w[k + 1] - w[k] != 1 {

@@ -2,7 +2,7 @@
 use mathlib.Core.Path.{_≡_, refl, sym, ap, _∙_, subst}
 use mathlib.Core.Bool.{Bool, true, false, cond}
 use mathlib.Core.Logic.{inl, inr}
-use mathlib.Core.List.{List, []}
+use mathlib.Core.List.{List}
 use mathlib.Core.Option.{Option, none, some, Option·some-injective, Option·some-ne-none, Option·none-ne-some}
 use Prim.Native.Nat.{ℕ, zero, suc, _+_, _-_, _*_, _^_, _≤_, _<_}
 use native.Mathlib.Omega.{arith}
@@ -10,17 +10,17 @@ use lib.Dec.{ltb}
 use lib.ListN.{length, take, drop, replicate}
 use borrow.Author.Tests.{lt-ltb, le-ltb, ltb-false}
 use borrow.Rule.Slice.PartMut.{putMid, put-same, mid-len}
-use Rattle.laws.specs.Refusals.{None, none-here, none-more, Numbered, numbered-none, numbered-more, none-only}
-use Rattle.laws.specs.Count.{count}
-use Rattle.laws.specs.Steps.{least-at, least-of-none, least-found, least-none, least-before}
-use Rattle.laws.specs.Cases.{eq-or-ne}
+use Rattle.laws.specs.Refusals.{None, none-here, none-more, Numbered, numbered-none, numbered-more}
+use Rattle.laws.proofs.RefusalLaws.{none-only}
+use Rattle.laws.proofs.StepsLaws.{least-at, least-of-none, least-found, least-none, least-before}
+use Rattle.laws.proofs.Cases.{eq-or-ne}
 use Rattle.words.specs.Field.{splice}
 use Rattle.words.proofs.PartLaws.{splice-before, splice-back}
 use Rattle.mixing.specs.Mixing.{mixOf}
 use Rattle.fuse.specs.declared.Sizes.{Sizes}
 use Rattle.fuse.specs.Positions.{cellsIn, Usable}
 use Rattle.fuse.specs.Asking.{containsOf}
-use Rattle.fuse.specs.Layout.{positiveBytes, headerOf}
+use Rattle.fuse.specs.Layout.{positiveBytes, fuseHeader}
 use Rattle.fuse.proofs.HeaderLaws.{header-length}
 use Rattle.sizing.specs.declared.Plan.{Plan}
 use Rattle.sizing.specs.declared.Plan.the-variants as plan
@@ -28,14 +28,14 @@ use Rattle.sizing.specs.Table.{mostHashes}
 use Rattle.sizing.specs.Sizing.{sizesOf, planOf}
 use Rattle.sizing.proofs.SizedLaws.{plan-zero, plan-least, plan-sizes, plan-usable, plan-some}
 use Rattle.sort.specs.Sort.{sorted}
-use Rattle.sort.specs.Twins.{twins}
+use Rattle.sort.specs.Twins.{repeatsNext}
 use Rattle.sort.proofs.SortLaws.{length-sorted}
-use Rattle.peel.specs.Peel.{succeeds, cellsOf}
-use Rattle.peel.specs.Table.{Tried}
+use Rattle.peel.specs.Peel.{succeeds, cellsLaid}
+use Rattle.peel.specs.Table.{AttemptPost}
 use Rattle.peel.proofs.AttemptLaws.{check-never-fails, cells-length}
 use Rattle.filter.specs.declared.Built.{Built}
 use Rattle.filter.specs.declared.Built.the-variants.{Positive, Fuse, Refused}
-use Rattle.filter.specs.Building.{cellsFor, buildCauses, buildRefusal, Roomy, peelsBy, seedBy, attemptOf, attemptNumber, seeded, byAttempt, byPlan, builtOf, unlessRefused, buildOf, cellsBy, outBy, hashesBy, spaceBy, BuildPost, Spaced, Searched, Constructed, Missing, madeBy, Made, Laid}
+use Rattle.filter.specs.Building.{cellsFor, buildCauses, buildRefusal, Roomy, peelsBy, seedBy, firstAttempt, attemptNumber, seeded, byAttempt, byPlan, builtOf, unlessRefused, buildOf, cellsBy, outBy, hashesBy, spaceBy, BuildPost, Spaced, SearchPost, CellsPost, Missing, madeBy, MakePost, LayPost}
 
 -- ---- the plan
 
@@ -136,28 +136,28 @@ module _ (s : Sizes) (hs : List ℕ) where
   searching-start = (omega arith, λ q l. absurd (omega arith))
 
   module _ (i : ℕ) (S : Searching i) where
-    pub searching-hit : i < 100 → peelsBy s hs (i + 1) ≡ true → attemptOf s hs ≡ some (i, mixOf (i + 1))
-    unfolding attemptOf
+    pub searching-hit : i < 100 → peelsBy s hs (i + 1) ≡ true → firstAttempt s hs ≡ some (i, mixOf (i + 1))
+    unfolding firstAttempt
     searching-hit l t = least-at (seedBy s hs) 100 i (mixOf (i + 1)) l (S .1) (seed-yes i t)
 
     pub searching-miss : i < 100 → peelsBy s hs (i + 1) ≡ false → Searching (i + 1)
     searching-miss l t =
         (omega arith, λ q m. elim (eq-or-ne q i) [ inl e ↦ ap (seedBy s hs) e ∙ seed-no i t | inr d ↦ S .1 q (omega arith) ])
 
-    pub searching-end : 100 ≤ i → attemptOf s hs ≡ none
-    unfolding attemptOf
+    pub searching-end : 100 ≤ i → firstAttempt s hs ≡ none
+    unfolding firstAttempt
     searching-end l = least-of-none (seedBy s hs) 100 (λ q m. S .1 q (omega arith))
 
   -- none of the attempts 1 to 100 peels every hash
   abbrev pub NonePeels : Type 0
   NonePeels = (i : ℕ) → 1 ≤ i → i ≤ 100 → peelsBy s hs i ≡ false
 
-  pub attempt-none : NonePeels → attemptOf s hs ≡ none
-  unfolding attemptOf
+  pub attempt-none : NonePeels → firstAttempt s hs ≡ none
+  unfolding firstAttempt
   attempt-none n = least-of-none (seedBy s hs) 100 (λ q l. seed-no q (n (q + 1) (omega arith) (omega arith)))
 
-  pub none-attempt : attemptOf s hs ≡ none → NonePeels
-  unfolding attemptOf
+  pub none-attempt : firstAttempt s hs ≡ none → NonePeels
+  unfolding firstAttempt
   none-attempt e i l m =
       let k : i - 1 + 1 ≡ i = omega arith in
       ap (peelsBy s hs) (sym k) ∙ seed-fails _ _ (least-none (seedBy s hs) 100 0 e (i - 1) (omega arith) (omega arith))
@@ -169,8 +169,8 @@ module _ (s : Sizes) (hs : List ℕ) where
     pub seed-is : mixOf (i + 1) ≡ seed
     pub before : (j : ℕ) → 1 ≤ j → j < i + 1 → peelsBy s hs j ≡ false
 
-  pub attempt-some : (i seed : ℕ) → attemptOf s hs ≡ some (i, seed) → FirstPeel i seed
-  unfolding attemptOf
+  pub attempt-some : (i seed : ℕ) → firstAttempt s hs ≡ some (i, seed) → FirstPeel i seed
+  unfolding firstAttempt
   attempt-some i seed e =
       let f = least-found (seedBy s hs) 100 0 i seed e in
       let p = seed-split _ _ _ (f .0) in
@@ -183,62 +183,62 @@ module _ (s : Sizes) (hs : List ℕ) where
             ap (peelsBy s hs) (sym k) ∙ seed-fails _ _ (least-before (seedBy s hs) 100 0 i seed e (j - 1) (omega arith) (omega arith));
       }
 
-module _ (s : Sizes) (hs before after : List ℕ) (seed i : ℕ) (r : Bool) (T : Tried (s .segment) (s .count) seed hs before after r) (e : seed ≡ mixOf (i + 1)) where
+module _ (s : Sizes) (hs before after : List ℕ) (seed i : ℕ) (r : Bool) (T : AttemptPost (s .segment) (s .count) seed hs before after r) (e : seed ≡ mixOf (i + 1)) where
   tried-peels : r ≡ peelsBy s hs (i + 1)
   tried-peels = T .answer ∙ ap (λ (x : ℕ). succeeds (s .segment) (s .count) x hs) e
 
-  pub tried-hit : Searching s hs i → i < 100 → r ≡ true → (cells : List ℕ) → Searched s hs cells after (i + 1)
+  pub tried-hit : Searching s hs i → i < 100 → r ≡ true → (cells : List ℕ) → SearchPost s hs cells after (i + 1)
   tried-hit S l t cells = record {
     first = ap attemptNumber (sym (searching-hit s hs i S l (sym tried-peels ∙ t)));
     cells =
-        T .cells ∙ ap (λ (b : Bool). cond b (cellsOf (s .segment) (s .count) seed hs) before) (sym (T .answer) ∙ t)
-        ∙ ap (λ (x : ℕ). cellsOf (s .segment) (s .count) x hs) e
+        T .cells ∙ ap (λ (b : Bool). cond b (cellsLaid (s .segment) (s .count) seed hs) before) (sym (T .answer) ∙ t)
+        ∙ ap (λ (x : ℕ). cellsLaid (s .segment) (s .count) x hs) e
         ∙ ap (λ (o : Option (ℕ × ℕ)). cellsBy (byAttempt s o) hs cells) (sym (searching-hit s hs i S l (sym tried-peels ∙ t)));
   }
 
   pub tried-miss : Searching s hs i → i < 100 → r ≡ false → Searching s hs (i + 1) × (after ≡ before)
   tried-miss S l f = (
     searching-miss s hs i S l (sym tried-peels ∙ f),
-    T .cells ∙ ap (λ (b : Bool). cond b (cellsOf (s .segment) (s .count) seed hs) before) (sym (T .answer) ∙ f),
+    T .cells ∙ ap (λ (b : Bool). cond b (cellsLaid (s .segment) (s .count) seed hs) before) (sym (T .answer) ∙ f),
   )
 
 -- ---- built over the cells
 
 -- all attempts failed
-pub tried-none : (s : Sizes) (hs before after : List ℕ) (i : ℕ) → Searching s hs i → 100 ≤ i → after ≡ before → Searched s hs before after 0
+pub tried-none : (s : Sizes) (hs before after : List ℕ) (i : ℕ) → Searching s hs i → 100 ≤ i → after ≡ before → SearchPost s hs before after 0
 tried-none s hs before after i S l e =
     let n = searching-end s hs i S l in
     record { first = ap attemptNumber (sym n); cells = e ∙ ap (λ (o : Option (ℕ × ℕ)). cellsBy (byAttempt s o) hs before) (sym n) }
 
-module _ (s : Sizes) (hs before after : List ℕ) (i : ℕ) (S : Searched s hs before after i) where
-  none-found : i ≡ 0 → attemptOf s hs ≡ none
-  none-found z = go (attemptOf s hs) (S .first)
+module _ (s : Sizes) (hs before after : List ℕ) (i : ℕ) (S : SearchPost s hs before after i) where
+  none-found : i ≡ 0 → firstAttempt s hs ≡ none
+  none-found z = go (firstAttempt s hs) (S .first)
     where
       go : (o : Option (ℕ × ℕ)) → i ≡ attemptNumber o → o ≡ none
       go none e = refl
       go (some (j, a)) e = absurd (omega arith)
 
-  pub construct-none : i ≡ 0 → Constructed s hs before after Positive
+  pub construct-none : i ≡ 0 → CellsPost s hs before after Positive
   construct-none z = record {
     answer = ap (byAttempt s) (sym (none-found z));
     cells = S .cells ∙ ap (λ (o : Option (ℕ × ℕ)). cellsBy (byAttempt s o) hs before) (none-found z);
   }
 
   module _ (not-zero : i ≡ 0 → ⊥) (seed : ℕ) (e : seed ≡ mixOf i) where
-    found : (j : ℕ) × (attemptOf s hs ≡ some (j, seed)) × (peelsBy s hs i ≡ true)
-    found = go (attemptOf s hs) refl
+    found : (j : ℕ) × (firstAttempt s hs ≡ some (j, seed)) × (peelsBy s hs i ≡ true)
+    found = go (firstAttempt s hs) refl
       where
-        go : (o : Option (ℕ × ℕ)) → attemptOf s hs ≡ o → (j : ℕ) × (attemptOf s hs ≡ some (j, seed)) × (peelsBy s hs i ≡ true)
+        go : (o : Option (ℕ × ℕ)) → firstAttempt s hs ≡ o → (j : ℕ) × (firstAttempt s hs ≡ some (j, seed)) × (peelsBy s hs i ≡ true)
         go none q = absurd (not-zero (S .first ∙ ap attemptNumber q))
         go (some (j, a)) q =
             let F = attempt-some s hs j a q in
             let k : i ≡ j + 1 = S .first ∙ ap attemptNumber q in
             (j, q ∙ ap (λ (x : ℕ). some (j, x)) (sym (F .seed-is) ∙ ap mixOf (sym k) ∙ sym e), ap (peelsBy s hs) k ∙ F .peels)
 
-    cells-are : after ≡ cellsOf (s .segment) (s .count) seed hs
+    cells-are : after ≡ cellsLaid (s .segment) (s .count) seed hs
     cells-are = S .cells ∙ ap (λ (o : Option (ℕ × ℕ)). cellsBy (byAttempt s o) hs before) (found .1)
 
-    pub construct-some : Constructed s hs before after (Fuse (seeded s seed))
+    pub construct-some : CellsPost s hs before after (Fuse (seeded s seed))
     construct-some = record { answer = ap (byAttempt s) (sym (found .1)); cells = cells-are }
 
     -- the closing check never fails
@@ -261,25 +261,25 @@ made-part (Fuse s) hs out cells k l e = splice-back 48 k out cells l ∙ ap (spl
 made-part (Refused r) hs out cells k l e = ap (putMid 48 k out) e ∙ put-same 48 k out
 
 module _ (hs out : List ℕ) where
-  pub made-twins : twins hs ≡ true → Made hs out out Positive
+  pub made-twins : repeatsNext hs ≡ true → MakePost hs out out Positive
   unfolding byPlan
   made-twins t = record { answer = sym (go (planOf (length hs))); output = refl }
     where
       go : (p : Plan) → byPlan p hs ≡ Positive
       go plan.Positive = refl
-      go (plan.Fuse s) = ap (λ (b : Bool). cond b Positive (byAttempt s (attemptOf s hs))) t
+      go (plan.Fuse s) = ap (λ (b : Bool). cond b Positive (byAttempt s (firstAttempt s hs))) t
 
-  pub made-none : planOf (length hs) ≡ plan.Positive → Made hs out out Positive
+  pub made-none : planOf (length hs) ≡ plan.Positive → MakePost hs out out Positive
   unfolding byPlan
   made-none e = record { answer = ap (λ (p : Plan). byPlan p hs) (sym e); output = refl }
 
-  pub made-some : (s : Sizes) → planOf (length hs) ≡ plan.Fuse s → twins hs ≡ false → (c : ℕ) → c ≡ cellsFor (length hs) → (cells : List ℕ) (r : Built)
+  pub made-some : (s : Sizes) → planOf (length hs) ≡ plan.Fuse s → repeatsNext hs ≡ false → (c : ℕ) → c ≡ cellsFor (length hs) → (cells : List ℕ) (r : Built)
       → length cells ≡ length (take (48 + c - 48) (drop 48 out)) → 48 + cellsFor (length hs) ≤ length out
-      → Constructed s hs (take (48 + c - 48) (drop 48 out)) cells r → Made hs out (putMid 48 (48 + c - 48) out cells) r
+      → CellsPost s hs (take (48 + c - 48) (drop 48 out)) cells r → MakePost hs out (putMid 48 (48 + c - 48) out cells) r
   unfolding byPlan
   made-some s e f c ec cells r l room C = record {
     answer =
-        C .answer ∙ sym (ap (λ (b : Bool). cond b Positive (byAttempt s (attemptOf s hs))) f)
+        C .answer ∙ sym (ap (λ (b : Bool). cond b Positive (byAttempt s (firstAttempt s hs))) f)
         ∙ ap (λ (p : Plan). byPlan p hs) (sym e);
     output = made-part r hs out cells (48 + c - 48) (l ∙ mid-len 48 (48 + c) out (omega arith)) (C .cells);
   }
@@ -302,27 +302,27 @@ make-spaced n s e wide narrow c out ec R l =
 -- of n hashes: there are none, two are equal, or the attempts decide
 pub data Way (n : ℕ) (hs : List ℕ) : Built → Type 0 where
   empty : n ≡ 0 → Way n hs Positive
-  double : twins hs ≡ true → Way n hs Positive
-  tried : 1 ≤ n → twins hs ≡ false → Way n hs (byAttempt (sizesOf n) (attemptOf (sizesOf n) hs))
+  double : repeatsNext hs ≡ true → Way n hs Positive
+  tried : 1 ≤ n → repeatsNext hs ≡ false → Way n hs (byAttempt (sizesOf n) (firstAttempt (sizesOf n) hs))
 
 pub way : (n : ℕ) (hs : List ℕ) → Way n hs (byPlan (planOf n) hs)
 unfolding byPlan
 way n hs = go (planOf n) refl
   where
-    by-twins : (b : Bool) → twins hs ≡ b → 1 ≤ n → Way n hs (cond b Positive (byAttempt (sizesOf n) (attemptOf (sizesOf n) hs)))
+    by-twins : (b : Bool) → repeatsNext hs ≡ b → 1 ≤ n → Way n hs (cond b Positive (byAttempt (sizesOf n) (firstAttempt (sizesOf n) hs)))
     by-twins true t l = double t
     by-twins false t l = tried l t
 
     go : (p : Plan) → planOf n ≡ p → Way n hs (byPlan p hs)
     go plan.Positive e = empty (plan-zero n e)
     go (plan.Fuse s) e =
-        subst (λ (x : Sizes). Way n hs (cond (twins hs) Positive (byAttempt x (attemptOf x hs)))) (plan-sizes n s e) (by-twins (twins hs) refl (plan-least n s e))
+        subst (λ (x : Sizes). Way n hs (cond (repeatsNext hs) Positive (byAttempt x (firstAttempt x hs)))) (plan-sizes n s e) (by-twins (repeatsNext hs) refl (plan-least n s e))
 
 -- it is no refusal
 pub not-refused : (n : ℕ) (hs : List ℕ) (b : Built) → Way n hs b → (r : ℕ) → b ≡ Refused r → ⊥
 not-refused n hs b (empty z) r e = let z : _≡_ {A = ℕ} 0 1 = cc in omega arith
 not-refused n hs b (double t) r e = let z : _≡_ {A = ℕ} 0 1 = cc in omega arith
-not-refused n hs b (tried l t) r e = go (attemptOf (sizesOf n) hs) e
+not-refused n hs b (tried l t) r e = go (firstAttempt (sizesOf n) hs) e
   where
     go : (o : Option (ℕ × ℕ)) → byAttempt (sizesOf n) o ≡ Refused r → ⊥
     go none p = let z : _≡_ {A = ℕ} 0 1 = cc in omega arith
@@ -334,7 +334,7 @@ sizes-of : (n : ℕ) (hs : List ℕ) (b : Built) → Way n hs b → (f : Sizes) 
 unfolding sizesOf
 sizes-of n hs b (empty z) f e l = let z : _≡_ {A = ℕ} 0 1 = cc in absurd (omega arith)
 sizes-of n hs b (double t) f e l = let z : _≡_ {A = ℕ} 0 1 = cc in absurd (omega arith)
-sizes-of n hs b (tried k t) f e l = go (attemptOf (sizesOf n) hs) e
+sizes-of n hs b (tried k t) f e l = go (firstAttempt (sizesOf n) hs) e
   where
     p : planOf n ≡ plan.Fuse (sizesOf n)
     p = sym (plan-some n (sizesOf n .segment) (sizesOf n .count) (λ z. omega arith) refl refl)
@@ -345,8 +345,8 @@ sizes-of n hs b (tried k t) f e l = go (attemptOf (sizesOf n) hs) e
         let r : seeded (sizesOf n) a ≡ f = cc in
         subst (λ (x : Sizes). Usable (x .segment) (x .count) × (cellsIn (x .segment) (x .count) ≡ cellsFor n)) r (plan-usable n (sizesOf n) p l, plan-cells n (sizesOf n) p)
 
-module _ (hs out mid : List ℕ) (b : Built) (M : Made hs out mid b) where
-  pub lay-positive : b ≡ Positive → (after : List ℕ) → after ≡ splice mid 0 positiveBytes → Laid hs out after b
+module _ (hs out mid : List ℕ) (b : Built) (M : MakePost hs out mid b) where
+  pub lay-positive : b ≡ Positive → (after : List ℕ) → after ≡ splice mid 0 positiveBytes → LayPost hs out after b
   lay-positive e after p = record {
     answer = M .answer;
     output =
@@ -354,7 +354,7 @@ module _ (hs out mid : List ℕ) (b : Built) (M : Made hs out mid b) where
         ∙ ap (λ (x : Built). outBy x hs out) (sym e);
   }
 
-  pub lay-refused : (r : ℕ) → b ≡ Refused r → Laid hs out mid b
+  pub lay-refused : (r : ℕ) → b ≡ Refused r → LayPost hs out mid b
   lay-refused r e = record {
     answer = M .answer;
     output = M .output ∙ ap (λ (x : Built). madeBy x hs out) e ∙ ap (λ (x : Built). outBy x hs out) (sym e);
@@ -367,12 +367,12 @@ module _ (hs out mid : List ℕ) (b : Built) (M : Made hs out mid b) where
     lay-cells : cellsIn (s .segment) (s .count) ≡ cellsFor (length hs)
     lay-cells = sizes-of (length hs) hs _ (way (length hs) hs) s (sym (M .answer) ∙ e) l .1
 
-    pub lay-fuse : 48 + cellsFor (length hs) ≤ length out → (after : List ℕ) → after ≡ splice mid 0 (headerOf s) → Laid hs out after (Fuse s)
+    pub lay-fuse : 48 + cellsFor (length hs) ≤ length out → (after : List ℕ) → after ≡ splice mid 0 (fuseHeader s) → LayPost hs out after (Fuse s)
     lay-fuse room after p = record {
       answer = sym e ∙ M .answer;
       output =
-          p ∙ ap (λ (t : List ℕ). splice t 0 (headerOf s)) (M .output ∙ ap (λ (x : Built). madeBy x hs out) e)
-          ∙ splice-before out (headerOf s) 48 (cellsOf (s .segment) (s .count) (s .seed) hs) (header-length s)
+          p ∙ ap (λ (t : List ℕ). splice t 0 (fuseHeader s)) (M .output ∙ ap (λ (x : Built). madeBy x hs out) e)
+          ∙ splice-before out (fuseHeader s) 48 (cellsLaid (s .segment) (s .count) (s .seed) hs) (header-length s)
           (omega (arith, cells-length (s .segment) (s .count) (s .seed) hs, lay-cells));
     }
 
@@ -403,7 +403,7 @@ module _ (hashes wide narrow out : List ℕ) where
   kept (Refused r) n = absurd (n r refl)
 
   pub build-done : buildRefusal (length hashes) (length wide) (length narrow) (length out) ≡ 0
-      → (r : Built) (hashes' wide' narrow' out' : List ℕ) → hashes' ≡ sorted hashes → Laid hashes' out out' r
+      → (r : Built) (hashes' wide' narrow' out' : List ℕ) → hashes' ≡ sorted hashes → LayPost hashes' out out' r
       → wide' ≡ replicate (length wide) 0 → narrow' ≡ replicate (length narrow) 0
       → BuildPost hashes wide narrow out r hashes' wide' narrow' out'
   unfolding buildOf builtOf

@@ -8,14 +8,15 @@ use Prim.Native.Nat.{ℕ, zero, suc, _+_, _*_, _^_, _≤_, _<_}
 use native.Mathlib.Omega.{arith}
 use lib.ListN.{length, take, length-append}
 use lib.Seq.{take-at}
-use Rattle.laws.specs.Refusals.{First, first-given, first-only}
-use Rattle.laws.specs.Count.{count}
+use Rattle.laws.specs.Refusals.{First}
+use Rattle.laws.proofs.RefusalLaws.{first-given, first-only}
+use Rattle.laws.specs.Count.{occurs}
 use Rattle.words.proofs.PartLaws.{splice-front}
 use Rattle.mixing.specs.Mixing.{mixOf, mixOf-lt}
 use Rattle.fuse.specs.declared.Sizes.{Sizes}
 use Rattle.fuse.specs.Positions.{cellsIn, Usable}
 use Rattle.fuse.specs.Asking.{containsOf}
-use Rattle.fuse.specs.Layout.{positiveBytes, headerOf, Accepted}
+use Rattle.fuse.specs.Layout.{positiveBytes, fuseHeader, Accepted}
 use Rattle.fuse.proofs.HeaderLaws.{header-length, positive-length}
 use Rattle.sizing.specs.Table.{mostHashes}
 use Rattle.sizing.specs.Sizing.{sizesOf}
@@ -23,7 +24,7 @@ use Rattle.sizing.proofs.SizedLaws.{sizes-enough, sizes-accepted}
 use Rattle.sort.specs.Sort.{sorted}
 use Rattle.sort.proofs.TwinLaws.{twins-sorted, repeats-doubles}
 use Rattle.sort.proofs.SortLaws.{count-sorted}
-use Rattle.peel.specs.Peel.{succeeds, cellsOf}
+use Rattle.peel.specs.Peel.{succeeds, cellsLaid}
 use Rattle.peel.proofs.AttemptLaws.{check-never-fails, cells-length}
 use Rattle.filter.specs.declared.SstFilter.the-variants as read
 use Rattle.filter.specs.declared.Answer.the-variants.{Maybe}
@@ -31,7 +32,7 @@ use Rattle.filter.specs.declared.Built.{Built}
 use Rattle.filter.specs.declared.Built.the-variants.{Positive, Fuse, Refused}
 use Rattle.filter.specs.Reading.{readOf, positive, fuse}
 use Rattle.filter.specs.Asking.{askOf}
-use Rattle.filter.specs.Building.{buildCauses, buildRefusal, attemptOf, seeded, byAttempt, builtOf, unlessRefused, buildOf, builtRefusal, writtenBy, lengthBy, builtValues, outBy, BuildPost, WhyPositive, no-hashes, equal-hashes, no-attempt, FilterOf, asRead}
+use Rattle.filter.specs.Building.{buildCauses, buildRefusal, firstAttempt, seeded, byAttempt, builtOf, unlessRefused, buildOf, builtRefusal, writtenBy, lengthBy, builtValues, outBy, BuildPost, WhyPositive, no-hashes, equal-hashes, no-attempt, FilterOf, asRead}
 use Rattle.filter.proofs.ExactLaws.{layout-reads, positive-asks, fuse-asks}
 use Rattle.filter.proofs.BuildingLaws.{attempt-none, none-attempt, attempt-some, roomy, Way, empty, double, tried, way, not-refused}
 
@@ -44,9 +45,9 @@ built-way hashes = way (length hashes) (sorted hashes)
 why : (hashes : List ℕ) (b : Built) → Way (length hashes) (sorted hashes) b → b ≡ Positive → WhyPositive hashes
 why hashes b (empty z) e = no-hashes z
 why hashes b (double t) e = let d = repeats-doubles hashes .yes (sym (twins-sorted hashes) ∙ t) in equal-hashes (d .0) (d .1)
-why hashes b (tried l t) e = go (attemptOf (sizesOf (length hashes)) (sorted hashes)) refl e
+why hashes b (tried l t) e = go (firstAttempt (sizesOf (length hashes)) (sorted hashes)) refl e
   where
-    go : (o : Option (ℕ × ℕ)) → attemptOf (sizesOf (length hashes)) (sorted hashes) ≡ o → byAttempt (sizesOf (length hashes)) o ≡ Positive → WhyPositive hashes
+    go : (o : Option (ℕ × ℕ)) → firstAttempt (sizesOf (length hashes)) (sorted hashes) ≡ o → byAttempt (sizesOf (length hashes)) o ≡ Positive → WhyPositive hashes
     go none q p = no-attempt (none-attempt (sizesOf (length hashes)) (sorted hashes) q)
     go (some (i, a)) q p = let z : _≡_ {A = ℕ} 0 1 = cc in absurd (omega arith)
 
@@ -73,9 +74,9 @@ seeded-enough n seed s e l few = subst (λ (x : Sizes). 43 * n ≤ 40 * cellsIn 
 whose : (hashes : List ℕ) → length hashes ≤ mostHashes → (b : Built) → Way (length hashes) (sorted hashes) b → (s : Sizes) → b ≡ Fuse s → FilterOf hashes s
 whose hashes few b (empty z) s e = let z : _≡_ {A = ℕ} 0 1 = cc in absurd (omega arith)
 whose hashes few b (double t) s e = let z : _≡_ {A = ℕ} 0 1 = cc in absurd (omega arith)
-whose hashes few b (tried l t) s e = go (attemptOf (sizesOf (length hashes)) (sorted hashes)) refl e
+whose hashes few b (tried l t) s e = go (firstAttempt (sizesOf (length hashes)) (sorted hashes)) refl e
   where
-    go : (o : Option (ℕ × ℕ)) → attemptOf (sizesOf (length hashes)) (sorted hashes) ≡ o → byAttempt (sizesOf (length hashes)) o ≡ Fuse s → FilterOf hashes s
+    go : (o : Option (ℕ × ℕ)) → firstAttempt (sizesOf (length hashes)) (sorted hashes) ≡ o → byAttempt (sizesOf (length hashes)) o ≡ Fuse s → FilterOf hashes s
     go none q p = let z : _≡_ {A = ℕ} 0 1 = cc in absurd (omega arith)
     go (some (i, a)) q p =
         let F = attempt-some (sizesOf (length hashes)) (sorted hashes) i a q in
@@ -96,7 +97,7 @@ built-filter hashes few s e = whose hashes few (builtOf hashes) (built-way hashe
 
 module _ (hashes : List ℕ) (s : Sizes) (F : FilterOf hashes s) (few : length hashes ≤ mostHashes) where
   -- reading accepts its sizes beside its cells
-  filter-accepted : Accepted s (length (cellsOf (s .segment) (s .count) (s .seed) (sorted hashes)))
+  filter-accepted : Accepted s (length (cellsLaid (s .segment) (s .count) (s .seed) (sorted hashes)))
   unfolding sizesOf
   filter-accepted =
       rw cells-length
@@ -110,7 +111,7 @@ module _ (hashes : List ℕ) (s : Sizes) (F : FilterOf hashes s) (few : length h
   filter-seed = subst (λ (x : Sizes). x .seed < 2 ^ 64) (sym (F .sizes)) (mixOf-lt (F .attempt))
 
   -- the closing membership check never fails
-  pub closing-check : (hash : ℕ) → 1 ≤ count hash hashes → containsOf (cellsOf (s .segment) (s .count) (s .seed) (sorted hashes)) s hash ≡ true
+  pub closing-check : (hash : ℕ) → 1 ≤ occurs hash hashes → containsOf (cellsLaid (s .segment) (s .count) (s .seed) (sorted hashes)) s hash ≡ true
   closing-check hash k =
       check-never-fails s filter-usable (sorted hashes)
       (subst (λ (x : Sizes). succeeds (x .segment) (x .count) (x .seed) (sorted hashes) ≡ true) (sym (F .sizes)) (F .peels)) hash (omega (arith, count-sorted hash hashes))
@@ -120,7 +121,7 @@ module _ (hashes : List ℕ) (s : Sizes) (F : FilterOf hashes s) (few : length h
 written-length : (b : Built) (hs : List ℕ) → ((q : ℕ) → b ≡ Refused q → ⊥) → length (writtenBy b hs) ≡ lengthBy b
 written-length Positive hs n = positive-length
 written-length (Fuse s) hs n =
-    omega (arith, length-append (headerOf s) (cellsOf (s .segment) (s .count) (s .seed) hs), header-length s, cells-length (s .segment) (s .count) (s .seed) hs)
+    omega (arith, length-append (fuseHeader s) (cellsLaid (s .segment) (s .count) (s .seed) hs), header-length s, cells-length (s .segment) (s .count) (s .seed) hs)
 written-length (Refused r) hs n = absurd (n r refl)
 
 written-by : (b : Built) (hs out : List ℕ) → ((q : ℕ) → b ≡ Refused q → ⊥) → take (lengthBy b) (outBy b hs out) ≡ writtenBy b hs
@@ -134,16 +135,16 @@ module _ (hashes : List ℕ) (few : length hashes ≤ mostHashes) where
   reads-by Positive e n = layout-reads positiveBytes read.Positive positive
   reads-by (Fuse s) e n =
       let F = built-filter hashes few s e in
-      layout-reads (headerOf s ++ cellsOf (s .segment) (s .count) (s .seed) (sorted hashes)) (read.Fuse s)
-      (fuse s (cellsOf (s .segment) (s .count) (s .seed) (sorted hashes)) (filter-accepted hashes s F few) (filter-seed hashes s F few))
+      layout-reads (fuseHeader s ++ cellsLaid (s .segment) (s .count) (s .seed) (sorted hashes)) (read.Fuse s)
+      (fuse s (cellsLaid (s .segment) (s .count) (s .seed) (sorted hashes)) (filter-accepted hashes s F few) (filter-seed hashes s F few))
   reads-by (Refused r) e n = absurd (n r refl)
 
-  asks-by : (b : Built) → builtOf hashes ≡ b → ((q : ℕ) → b ≡ Refused q → ⊥) → (hash : ℕ) → 1 ≤ count hash hashes
+  asks-by : (b : Built) → builtOf hashes ≡ b → ((q : ℕ) → b ≡ Refused q → ⊥) → (hash : ℕ) → 1 ≤ occurs hash hashes
       → askOf (writtenBy b (sorted hashes)) hash ≡ Maybe
   asks-by Positive e n hash k = positive-asks hash
   asks-by (Fuse s) e n hash k =
       let F = built-filter hashes few s e in
-      fuse-asks s (cellsOf (s .segment) (s .count) (s .seed) (sorted hashes)) (filter-accepted hashes s F few) (filter-seed hashes s F few) hash
+      fuse-asks s (cellsLaid (s .segment) (s .count) (s .seed) (sorted hashes)) (filter-accepted hashes s F few) (filter-seed hashes s F few) hash
       ∙ rw (closing-check hashes s F few hash k)
   asks-by (Refused r) e n hash k = absurd (n r refl)
 
@@ -238,7 +239,7 @@ module _ {hashes wide narrow out : List ℕ} {r : Built} {hashes' wide' narrow' 
     built-reads = ap readOf written ∙ reads-by hashes (few n) r (passed number (builtOf hashes) r answered n .1) n
 
     -- a filter built of a set of hashes never calls one of them absent
-    pub never-absent : (hash : ℕ) → 1 ≤ count hash hashes → askOf (take (lengthBy r) out') hash ≡ Maybe
+    pub never-absent : (hash : ℕ) → 1 ≤ occurs hash hashes → askOf (take (lengthBy r) out') hash ≡ Maybe
     never-absent hash k =
         ap (λ (bytes : List ℕ). askOf bytes hash) written ∙ asks-by hashes (few n) r (passed number (builtOf hashes) r answered n .1) n hash k
 

@@ -10,11 +10,12 @@ use lib.ListN.{length, drop, length-append, length-drop}
 use lib.Seq.{take-at, drop-at}
 use Rattle.words.specs.Field.{bytesOf, splice}
 use Rattle.words.specs.Part.{sameAs}
-use Rattle.words.proofs.Laws.{AllBytes, le-lt}
+use Rattle.words.proofs.Laws.{le-lt}
+use Rattle.words.specs.Field.{AllBytes}
 use Rattle.words.proofs.Ordered.{same-self}
 use Rattle.fuse.specs.declared.Sizes.{Sizes}
 use Rattle.fuse.specs.Asking.{containsOf}
-use Rattle.fuse.specs.Layout.{magic, positiveBytes, headerOf, sizesIn, fuseLaid, Accepted}
+use Rattle.fuse.specs.Layout.{filterMagic, positiveBytes, fuseHeader, sizesIn, fuseLaid, Accepted}
 use Rattle.fuse.proofs.FitLaws.{fitting-accepted, accepted-fitting, cells-some}
 use Rattle.fuse.proofs.HeaderLaws.{header-length, sizes-back}
 use Rattle.filter.specs.declared.SstFilter.{SstFilter}
@@ -32,23 +33,23 @@ use Rattle.filter.proofs.WriteLaws.{front-length}
 -- ---- what has a layout is read as it was laid out
 
 -- byte 9 is 0 in one layout and 2 in the other
-not-positive : (s : Sizes) (cells : List ℕ) → sameAs (headerOf s ++ cells) positiveBytes ≡ false
-unfolding headerOf magic bytesOf positiveBytes sameAs
+not-positive : (s : Sizes) (cells : List ℕ) → sameAs (fuseHeader s ++ cells) positiveBytes ≡ false
+unfolding fuseHeader filterMagic bytesOf positiveBytes sameAs
 not-positive s cells = refl
 
-laid-out : (s : Sizes) (cells : List ℕ) → Accepted s (length cells) → true ≡ fuseLaid (headerOf s ++ cells) s
+laid-out : (s : Sizes) (cells : List ℕ) → Accepted s (length cells) → true ≡ fuseLaid (fuseHeader s ++ cells) s
 unfolding fuseLaid
 laid-out s cells a =
-    let n : length (headerOf s ++ cells) - 48 ≡ length cells = omega (arith, length-append (headerOf s) cells, header-length s) in
-    rw (n, accepted-fitting s (length cells) a, take-at (headerOf s) cells 48 (header-length s)) (sym (same-self (headerOf s)))
+    let n : length (fuseHeader s ++ cells) - 48 ≡ length cells = omega (arith, length-append (fuseHeader s) cells, header-length s) in
+    rw (n, accepted-fitting s (length cells) a, take-at (fuseHeader s) cells 48 (header-length s)) (sym (same-self (fuseHeader s)))
 
 pub layout-reads : (bytes : List ℕ) (filter : SstFilter) → Layout bytes filter → readOf bytes ≡ filter
 layout-reads bytes filter positive = sym (read-positive positiveBytes (same-self positiveBytes))
 layout-reads bytes filter (fuse s cells a l) =
     let u = a .fits .usable in
-    let e : sizesIn (headerOf s ++ cells) ≡ s =
+    let e : sizesIn (fuseHeader s ++ cells) ≡ s =
     sizes-back s cells (omega (arith, a .few-keys)) l (omega (arith, u .most)) (cells-some (s .segment) (s .count) u .1) in
-    sym (read-other (headerOf s ++ cells) true (not-positive s cells) (rw e (laid-out s cells a))) ∙ ap Fuse e
+    sym (read-other (fuseHeader s ++ cells) true (not-positive s cells) (rw e (laid-out s cells a))) ∙ ap Fuse e
 
 -- ---- what is accepted has a layout
 
@@ -97,10 +98,10 @@ pub positive-values : (readRefusal (readOf positiveBytes) ≡ 0) × (readValues 
 positive-values = let e = layout-reads positiveBytes Positive positive in (ap readRefusal e, ap readValues e)
 
 pub fuse-values : (s : Sizes) (cells : List ℕ) → Accepted s (length cells) → s .seed < 2 ^ 64
-    → (readRefusal (readOf (headerOf s ++ cells)) ≡ 0)
-    × (readValues (readOf (headerOf s ++ cells)) ≡ 1 ∷ s .keys ∷ s .seed ∷ s .segment ∷ s .count ∷ length cells ∷ [])
+    → (readRefusal (readOf (fuseHeader s ++ cells)) ≡ 0)
+    × (readValues (readOf (fuseHeader s ++ cells)) ≡ 1 ∷ s .keys ∷ s .seed ∷ s .segment ∷ s .count ∷ length cells ∷ [])
 fuse-values s cells a l =
-    let e = layout-reads (headerOf s ++ cells) (Fuse s) (fuse s cells a l) in (
+    let e = layout-reads (fuseHeader s ++ cells) (Fuse s) (fuse s cells a l) in (
       ap readRefusal e,
       ap readValues e ∙ ap (λ (n : ℕ). 1 ∷ s .keys ∷ s .seed ∷ s .segment ∷ s .count ∷ n ∷ []) (sym (a .fits .whole)),
     )
@@ -135,7 +136,7 @@ pub acceptable-read : (filter : SstFilter) (cells : List ℕ) → ((s : Sizes) �
 unfolding acceptable bytesFor frontOf
 acceptable-read Positive [] w t = ap readOf (append-nil positiveBytes) ∙ layout-reads positiveBytes Positive positive
 acceptable-read Positive (x ∷ xs) w t = absurd (omega (arith, eqb-true (suc (length xs)) 0 t))
-acceptable-read (Fuse s) cells w t = layout-reads (headerOf s ++ cells) (Fuse s) (fuse s cells (fitting-accepted s (length cells) t) (w s refl))
+acceptable-read (Fuse s) cells w t = layout-reads (fuseHeader s ++ cells) (Fuse s) (fuse s cells (fitting-accepted s (length cells) t) (w s refl))
 acceptable-read Refused cells w t = cc
 
 -- an accepted filter has 48 bytes in front of its cells
@@ -190,15 +191,15 @@ positive-asks hash =
     ∙ sym (ask-positive Positive (drop 48 positiveBytes) hash refl)
 
 module _ (s : Sizes) (cells : List ℕ) (a : Accepted s (length cells)) (l : s .seed < 2 ^ 64) (hash : ℕ) where
-  pub fuse-asks : askOf (headerOf s ++ cells) hash ≡ cond (containsOf cells s hash) answer.Maybe answer.Absent
+  pub fuse-asks : askOf (fuseHeader s ++ cells) hash ≡ cond (containsOf cells s hash) answer.Maybe answer.Absent
   unfolding askOf
   fuse-asks =
-      ap (λ (f : SstFilter). askCellsOf f (drop 48 (headerOf s ++ cells)) hash) (layout-reads (headerOf s ++ cells) (Fuse s) (fuse s cells a l))
-      ∙ ap (λ (c : List ℕ). askCellsOf (Fuse s) c hash) (drop-at (headerOf s) cells 48 (header-length s))
+      ap (λ (f : SstFilter). askCellsOf f (drop 48 (fuseHeader s ++ cells)) hash) (layout-reads (fuseHeader s ++ cells) (Fuse s) (fuse s cells a l))
+      ∙ ap (λ (c : List ℕ). askCellsOf (Fuse s) c hash) (drop-at (fuseHeader s) cells 48 (header-length s))
       ∙ sym (ask-fuse (Fuse s) cells hash s refl (containsOf cells s hash) (sym (accepted-fitting s (length cells) a)) refl)
 
   -- 1 where the four cells of the hash say so, 0 where not
-  pub fuse-number : askNumber (askOf (headerOf s ++ cells) hash) ≡ cond (containsOf cells s hash) 1 0
+  pub fuse-number : askNumber (askOf (fuseHeader s ++ cells) hash) ≡ cond (containsOf cells s hash) 1 0
   fuse-number = ap askNumber fuse-asks ∙ go (containsOf cells s hash)
     where
       go : (t : Bool) → askNumber (cond t answer.Maybe answer.Absent) ≡ cond {A = ℕ} t 1 0

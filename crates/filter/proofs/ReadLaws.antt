@@ -8,7 +8,7 @@ use lib.ListN.{length, take, drop, take-append-drop}
 use Rattle.words.specs.Part.{sameAs}
 use Rattle.words.proofs.Ordered.{same-equal, same-lengths}
 use Rattle.fuse.specs.declared.Sizes.{Sizes}
-use Rattle.fuse.specs.Layout.{positiveBytes, headerOf, sizesIn, fitting, fuseLaid, Accepted}
+use Rattle.fuse.specs.Layout.{positiveBytes, fuseHeader, sizesIn, fitting, fuseLaid, Accepted}
 use Rattle.fuse.proofs.FitLaws.{fitting-accepted, not-fitting, cells-some}
 use Rattle.fuse.proofs.HeaderLaws.{positive-length}
 use Rattle.filter.specs.declared.SstFilter.the-variants.{Positive, Fuse, Refused}
@@ -59,10 +59,10 @@ module _ (bytes : List ℕ) where
     unfolding readOf
     fuse-sizes = split-fuse (sameAs bytes positiveBytes) (fuseLaid bytes (sizesIn bytes)) (sizesIn bytes) s e .1
 
-    laid : (fitting s (length bytes - 48) ≡ true) × (sameAs (take 48 bytes) (headerOf s) ≡ true)
+    laid : (fitting s (length bytes - 48) ≡ true) × (sameAs (take 48 bytes) (fuseHeader s) ≡ true)
     unfolding readOf fuseLaid
     laid =
-        and-eq-true-iff (fitting s (length bytes - 48)) (sameAs (take 48 bytes) (headerOf s)) .0
+        and-eq-true-iff (fitting s (length bytes - 48)) (sameAs (take 48 bytes) (fuseHeader s)) .0
         (ap (fuseLaid bytes) (sym fuse-sizes)
         ∙ split-fuse (sameAs bytes positiveBytes) (fuseLaid bytes (sizesIn bytes)) (sizesIn bytes) s e .0)
 
@@ -71,5 +71,5 @@ module _ (bytes : List ℕ) where
     fuse-accepted = fitting-accepted s (length bytes - 48) (laid .0)
 
     -- the header is the one written of these sizes
-    pub fuse-bytes : headerOf s ++ drop 48 bytes ≡ bytes
-    fuse-bytes = ap (λ (h : List ℕ). h ++ drop 48 bytes) (sym (same-equal (take 48 bytes) (headerOf s) (laid .1))) ∙ take-append-drop 48 bytes
+    pub fuse-bytes : fuseHeader s ++ drop 48 bytes ≡ bytes
+    fuse-bytes = ap (λ (h : List ℕ). h ++ drop 48 bytes) (sym (same-equal (take 48 bytes) (fuseHeader s) (laid .1))) ∙ take-append-drop 48 bytes

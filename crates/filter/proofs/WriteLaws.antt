@@ -9,7 +9,7 @@ use lib.ListN.{length}
 use borrow.Author.Tests.{lt-ltb, le-ltb}
 use Rattle.words.specs.Field.{splice}
 use Rattle.fuse.specs.declared.Sizes.{Sizes}
-use Rattle.fuse.specs.Layout.{positiveBytes, headerOf, fitting}
+use Rattle.fuse.specs.Layout.{positiveBytes, fuseHeader, fitting}
 use Rattle.fuse.proofs.HeaderLaws.{header-length, positive-length, put-behind}
 use Rattle.filter.specs.declared.SstFilter.{SstFilter}
 use Rattle.filter.specs.declared.SstFilter.the-variants.{Positive, Fuse, Refused}
@@ -37,7 +37,7 @@ pub front-positive : (filter : SstFilter) → filter ≡ Positive → positiveBy
 unfolding frontOf
 front-positive filter e = rw e
 
-pub front-fuse : (filter : SstFilter) (s : Sizes) → filter ≡ Fuse s → headerOf s ≡ frontOf filter
+pub front-fuse : (filter : SstFilter) (s : Sizes) → filter ≡ Fuse s → fuseHeader s ≡ frontOf filter
 unfolding frontOf
 front-fuse filter s e = rw e
 

@@ -7,21 +7,21 @@ use Prim.Native.Nat.{ℕ, zero, suc, _+_, _*_, _≤_, _<_, _^_}
 use lib.Dec.{ltb}
 use lib.ListN.{length, replicate}
 use Rattle.laws.specs.Refusals.{Cause, cause, firstOf}
-use Rattle.laws.specs.Count.{count}
+use Rattle.laws.specs.Count.{occurs}
 use Rattle.laws.specs.Steps.{least}
 use Rattle.words.specs.Field.{splice}
 use Rattle.mixing.specs.Mixing.{mixOf}
 use Rattle.fuse.specs.declared.Sizes.{Sizes}
-use Rattle.fuse.specs.Positions.{cellsIn, Fits}
+use Rattle.fuse.specs.Positions.{cellsIn, FitsCells}
 use Rattle.fuse.specs.Asking.{containsOf}
-use Rattle.fuse.specs.Layout.{positiveBytes, headerOf}
+use Rattle.fuse.specs.Layout.{positiveBytes, fuseHeader}
 use Rattle.sizing.specs.declared.Plan.{Plan}
 use Rattle.sizing.specs.declared.Plan.the-variants as plan
 use Rattle.sizing.specs.Table.{mostHashes}
 use Rattle.sizing.specs.Sizing.{sizesOf, planOf}
 use Rattle.sort.specs.Sort.{sorted}
-use Rattle.sort.specs.Twins.{twins}
-use Rattle.peel.specs.Peel.{succeeds, cellsOf}
+use Rattle.sort.specs.Twins.{repeatsNext}
+use Rattle.peel.specs.Peel.{succeeds, cellsLaid}
 use Rattle.filter.specs.declared.SstFilter.{SstFilter}
 use Rattle.filter.specs.declared.SstFilter.the-variants as read
 use Rattle.filter.specs.declared.Built.{Built}
@@ -65,8 +65,8 @@ abbrev pub seedBy : Sizes → List ℕ → ℕ → Option ℕ
 seedBy s hashes i = cond (peelsBy s hashes (i + 1)) (some (mixOf (i + 1))) none
 
 -- the first of the attempts 1 to 100 that peels every hash: one less than its number, and its seed
-unfoldable pub attemptOf : Sizes → List ℕ → Option (ℕ × ℕ)
-attemptOf s hashes = least (seedBy s hashes) 100 0
+unfoldable pub firstAttempt : Sizes → List ℕ → Option (ℕ × ℕ)
+firstAttempt s hashes = least (seedBy s hashes) 100 0
 
 -- its number, 0 for none
 abbrev pub attemptNumber : Option (ℕ × ℕ) → ℕ
@@ -85,7 +85,7 @@ byAttempt s (some (i, seed)) = Fuse (seeded s seed)
 -- by the plan: Positive for no hashes, and for two that are equal
 unfoldable pub byPlan : Plan → List ℕ → Built
 byPlan plan.Positive hashes = Positive
-byPlan (plan.Fuse s) hashes = cond (twins hashes) Positive (byAttempt s (attemptOf s hashes))
+byPlan (plan.Fuse s) hashes = cond (repeatsNext hashes) Positive (byAttempt s (firstAttempt s hashes))
 
 -- what is built, past the checks
 unfoldable pub builtOf : List ℕ → Built
@@ -110,13 +110,13 @@ builtRefusal (Refused r) = r
 -- the cells, filled if a filter was built of the hashes
 abbrev pub cellsBy : Built → (hashes cells : List ℕ) → List ℕ
 cellsBy Positive hashes cells = cells
-cellsBy (Fuse s) hashes cells = cellsOf (s .segment) (s .count) (s .seed) hashes
+cellsBy (Fuse s) hashes cells = cellsLaid (s .segment) (s .count) (s .seed) hashes
 cellsBy (Refused r) hashes cells = cells
 
 -- the bytes written: the Positive layout, or the header and the cells
 abbrev pub writtenBy : Built → (hashes : List ℕ) → List ℕ
 writtenBy Positive hashes = positiveBytes
-writtenBy (Fuse s) hashes = headerOf s ++ cellsOf (s .segment) (s .count) (s .seed) hashes
+writtenBy (Fuse s) hashes = fuseHeader s ++ cellsLaid (s .segment) (s .count) (s .seed) hashes
 writtenBy (Refused r) hashes = []
 
 -- how many they are
@@ -162,7 +162,7 @@ pub record BuildPost (hashes wide narrow out : List ℕ) (r : Built) (hashes' wi
 -- why there is no filter: no hashes, two that are equal, or none of the attempts 1 to 100 peels every hash
 pub data WhyPositive (hashes : List ℕ) : Type 0 where
   no-hashes : length hashes ≡ 0 → WhyPositive hashes
-  equal-hashes : (v : ℕ) → 2 ≤ count v hashes → WhyPositive hashes
+  equal-hashes : (v : ℕ) → 2 ≤ occurs v hashes → WhyPositive hashes
   no-attempt : ((i : ℕ) → 1 ≤ i → i ≤ 100 → peelsBy (sizesOf (length hashes)) (sorted hashes) i ≡ false) → WhyPositive hashes
 
 -- whose filter it is: all hashes are its keys, its sizes are those for so many, with 40 × cells ≥ 43 × hashes, and its seed is that of the
@@ -186,38 +186,38 @@ asRead (Refused r) = read.Refused
 
 -- lengths that the attempts work with
 pub record Spaced (s : Sizes) (n wide narrow cells : ℕ) : Type 0 where
-  pub fits : Fits (s .segment) (s .count) cells
+  pub fits : FitsCells (s .segment) (s .count) cells
   pub few : n + 1 < 2 ^ 32
   pub wide-room : cells + n ≤ wide
   pub narrow-room : cells + cells + n ≤ narrow
 
 -- how the attempts ended, and the cells after them
-pub record Searched (s : Sizes) (hashes before after : List ℕ) (attempt : ℕ) : Type 0 where
-  pub first : attempt ≡ attemptNumber (attemptOf s hashes)
-  pub cells : after ≡ cellsBy (byAttempt s (attemptOf s hashes)) hashes before
+pub record SearchPost (s : Sizes) (hashes before after : List ℕ) (attempt : ℕ) : Type 0 where
+  pub first : attempt ≡ attemptNumber (firstAttempt s hashes)
+  pub cells : after ≡ cellsBy (byAttempt s (firstAttempt s hashes)) hashes before
 
 -- what was built over the cells
-pub record Constructed (s : Sizes) (hashes before after : List ℕ) (r : Built) : Type 0 where
-  pub answer : r ≡ byAttempt s (attemptOf s hashes)
+pub record CellsPost (s : Sizes) (hashes before after : List ℕ) (r : Built) : Type 0 where
+  pub answer : r ≡ byAttempt s (firstAttempt s hashes)
   pub cells : after ≡ cellsBy r hashes before
 
 -- the output with the cells in their place, before the header stands in front
 abbrev pub madeBy : Built → (hashes out : List ℕ) → List ℕ
 madeBy Positive hashes out = out
-madeBy (Fuse s) hashes out = splice out 48 (cellsOf (s .segment) (s .count) (s .seed) hashes)
+madeBy (Fuse s) hashes out = splice out 48 (cellsLaid (s .segment) (s .count) (s .seed) hashes)
 madeBy (Refused r) hashes out = out
 
-pub record Made (hashes before after : List ℕ) (r : Built) : Type 0 where
+pub record MakePost (hashes before after : List ℕ) (r : Built) : Type 0 where
   pub answer : r ≡ byPlan (planOf (length hashes)) hashes
   pub output : after ≡ madeBy r hashes before
 
 -- the filter written
-pub record Laid (hashes before after : List ℕ) (r : Built) : Type 0 where
+pub record LayPost (hashes before after : List ℕ) (r : Built) : Type 0 where
   pub answer : r ≡ byPlan (planOf (length hashes)) hashes
   pub output : after ≡ outBy r hashes before
 
 -- one of the hashes is not in the cells
 pub record Missing (cells : List ℕ) (s : Sizes) (hashes : List ℕ) : Type 0 where
   pub hash : ℕ
-  pub given : 1 ≤ count hash hashes
+  pub given : 1 ≤ occurs hash hashes
   pub absent : containsOf cells s hash ≡ false

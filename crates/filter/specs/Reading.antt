@@ -7,7 +7,7 @@ use lib.ListN.{length}
 use Rattle.words.specs.Part.{sameAs}
 use Rattle.fuse.specs.declared.Sizes.{Sizes}
 use Rattle.fuse.specs.Positions.{cellsIn}
-use Rattle.fuse.specs.Layout.{positiveBytes, headerOf, sizesIn, fitting, fuseLaid, Accepted}
+use Rattle.fuse.specs.Layout.{positiveBytes, fuseHeader, sizesIn, fitting, fuseLaid, Accepted}
 use Rattle.filter.specs.declared.SstFilter.{SstFilter}
 use Rattle.filter.specs.declared.SstFilter.the-variants.{Positive, Fuse, Refused}
 
@@ -30,7 +30,7 @@ readValues Refused = []
 -- the bytes in front of the cells
 unfoldable pub frontOf : SstFilter → List ℕ
 frontOf Positive = positiveBytes
-frontOf (Fuse s) = headerOf s
+frontOf (Fuse s) = fuseHeader s
 frontOf Refused = []
 
 -- whether some bytes are read as this filter beside so many cells
@@ -42,4 +42,4 @@ acceptable Refused cells = false
 -- the two layouts, and how each is read
 pub data Layout : List ℕ → SstFilter → Type 0 where
   positive : Layout positiveBytes Positive
-  fuse : (s : Sizes) (cells : List ℕ) → Accepted s (length cells) → s .seed < 2 ^ 64 → Layout (headerOf s ++ cells) (Fuse s)
+  fuse : (s : Sizes) (cells : List ℕ) → Accepted s (length cells) → s .seed < 2 ^ 64 → Layout (fuseHeader s ++ cells) (Fuse s)

@@ -2,8 +2,8 @@
 ghost use mathlib.Core.Bool.{false};
 ghost use mathlib.Core.Path.{_≡_};
 ghost use lib.ListN.{length};
-ghost use Rattle.fuse.specs.Positions.{Fits};
-ghost use Rattle.filter.specs.Building.{cellsFor, buildRefusal, Roomy, Spaced, Searched, Constructed, Missing, Made, Laid};
+ghost use Rattle.fuse.specs.Positions.{FitsCells};
+ghost use Rattle.filter.specs.Building.{cellsFor, buildRefusal, Roomy, Spaced, SearchPost, CellsPost, Missing, MakePost, LayPost};
 use super::Built;
 use fuse::Sizes;
 use fuse::header;
@@ -44,7 +44,7 @@ pub fn refusal(n: usize, wide: usize, narrow: usize, out: usize) -> u8
 // The first of the attempts that peels every hash, 0 if none does; it fills the cells.
 fn search(hashes: &[u64], wide: &mut [u64], narrow: &mut [u32], cells: &mut [u8], s: Sizes) -> u64
     requires { ⌜ Spaced s (length (now hashes)) (length (now wide)) (length (now narrow)) (length (now cells)) ⌝ }
-    ensures { λ r. ⌜ Searched s (now (hashes .entry)) (now (cells .entry)) (now (cells .exit)) r ⌝ }
+    ensures { λ r. ⌜ SearchPost s (now (hashes .entry)) (now (cells .entry)) (now (cells .exit)) r ⌝ }
 {
     let mut i: u64 = 0;
     while i < Built::ATTEMPTS {
@@ -64,7 +64,7 @@ fn search(hashes: &[u64], wide: &mut [u64], narrow: &mut [u32], cells: &mut [u8]
 
 // The closing membership check: whether every hash is in the cells.
 fn all_present(hashes: &[u64], cells: &[u8], s: Sizes) -> bool
-    requires { ⌜ Fits (s .segment) (s .count) (length (now cells)) ⌝ }
+    requires { ⌜ FitsCells (s .segment) (s .count) (length (now cells)) ⌝ }
     ensures { λ r. ⌜ (r ≡ false → Missing (now (cells .entry)) s (now (hashes .entry))) ⌝ }
 {
     let mut i = 0;
@@ -86,7 +86,7 @@ fn construct(
     s: Sizes,
 ) -> Built
     requires { ⌜ Spaced s (length (now hashes)) (length (now wide)) (length (now narrow)) (length (now cells)) ⌝ }
-    ensures { λ r. ⌜ Constructed s (now (hashes .entry)) (now (cells .entry)) (now (cells .exit)) r ⌝ }
+    ensures { λ r. ⌜ CellsPost s (now (hashes .entry)) (now (cells .entry)) (now (cells .exit)) r ⌝ }
 {
     let i = search(hashes, wide, narrow, cells, s);
     if i == 0 {
@@ -107,7 +107,7 @@ fn construct(
 // What is built of sorted hashes; the cells of a filter are in the output, where its header is to stand in front.
 fn make(hashes: &[u64], wide: &mut [u64], narrow: &mut [u32], out: &mut [u8]) -> Built
     requires { ⌜ Roomy (length (now hashes)) (length (now wide)) (length (now narrow)) (length (now out)) ⌝ }
-    ensures { λ r. ⌜ Made (now (hashes .entry)) (now (out .entry)) (now (out .exit)) r ⌝ }
+    ensures { λ r. ⌜ MakePost (now (hashes .entry)) (now (out .entry)) (now (out .exit)) r ⌝ }
 {
     if sort::has_twins(hashes) {
         return Built::Positive;
@@ -123,7 +123,7 @@ fn make(hashes: &[u64], wide: &mut [u64], narrow: &mut [u32], out: &mut [u8]) ->
 // Builds of sorted hashes, and writes the filter.
 pub fn lay(hashes: &[u64], wide: &mut [u64], narrow: &mut [u32], out: &mut [u8]) -> Built
     requires { ⌜ Roomy (length (now hashes)) (length (now wide)) (length (now narrow)) (length (now out)) ⌝ }
-    ensures { λ r. ⌜ Laid (now (hashes .entry)) (now (out .entry)) (now (out .exit)) r ⌝ }
+    ensures { λ r. ⌜ LayPost (now (hashes .entry)) (now (out .entry)) (now (out .exit)) r ⌝ }
 {
     let built = make(hashes, wide, narrow, out);
     match built {

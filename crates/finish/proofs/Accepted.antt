@@ -11,15 +11,16 @@ use mathlib.Core.Logic.{⊎-elim}
 use lib.ListN.{length, getD, take, drop, List·getD-eq-default}
 use lib.Seq.{drop-at}
 use borrow.Author.Tests.{eq-eqb, ne-eqb, lt-leb}
-use Rattle.laws.specs.Cases.{lt-or-ge}
-use Rattle.laws.specs.RefusalLaws.{orElse-zero}
+use Rattle.laws.proofs.Cases.{lt-or-ge}
+use Rattle.laws.proofs.RefusalLaws.{orElse-zero}
 use Rattle.words.specs.Field.{bytesOf}
 use Rattle.words.specs.Part.{sameAs}
-use Rattle.words.proofs.Laws.{AllBytes, bytes-bytesOf, bytes-append}
+use Rattle.words.proofs.Laws.{bytes-bytesOf, bytes-append}
+use Rattle.words.specs.Field.{AllBytes}
 use Rattle.words.proofs.Ordered.{same-self}
 use Rattle.mixing.specs.Mixing.{hashOf, fingerprintOf, seedOf, bucketOf, bucketOf-lt, seedOf-lt}
-use Rattle.mixing.specs.Slots.{some-buckets}
-use Rattle.layout.specs.Layout.{magic, slotAt, seedIn, keysIn, bucketsIn, arenaIn, dimensionRefusal, headerRefusal, pilotAt, directPast, pilotOf, slotOf, slotPlace, recordOffset, fingerprintWide}
+use Rattle.mixing.proofs.SlotLaws.{some-buckets}
+use Rattle.layout.specs.Layout.{indexMagic, slotAt, seedIn, keysIn, bucketsIn, arenaIn, dimensionRefusal, headerRefusal, pilotAt, directPast, pilotOf, slotOf, slotPlace, recordOffset, fingerprintWide}
 use Rattle.layout.proofs.HeaderLaws.{magic-is, header-on, passes}
 use Rattle.records.specs.declared.DataLength.the-variants.{Untested}
 use Rattle.records.specs.declared.Limit.{Limit}
@@ -31,8 +32,8 @@ use Rattle.records.proofs.PassedLaws.{entries-count, place-rises, walk-ends}
 use Rattle.records.proofs.TableLaws.{table-tested}
 use Rattle.records.proofs.Theorems.{read-back, read-whole, table-few, table-most}
 use Rattle.construct.specs.Construct.{bucketsOf, direct, size, Placing, slotBy, indexOf}
-use Rattle.construct.specs.Keys.{keyOf, attemptHashes}
-use Rattle.construct.specs.Promised.{Whole, Pilots}
+use Rattle.construct.specs.Keys.{arenaKey, attemptHashes}
+use Rattle.construct.specs.Promised.{AllPlaced, Pilots}
 use Rattle.construct.proofs.KeysLaws.{hashes-long}
 use Rattle.construct.proofs.Placed.{few}
 use Rattle.point.specs.declared.Validated.the-variants.{Accepted}
@@ -125,7 +126,7 @@ unfolding flatMap
 row f h [] = record { each = λ i. omega arith }
 row f h (x ∷ xs) = join (h x) (row f h xs)
 
-magic-bytes : magic ≡ bytesOf 8 3623234197252098379
+magic-bytes : indexMagic ≡ bytesOf 8 3623234197252098379
 unfolding bytesOf
 magic-bytes = refl
 
@@ -163,7 +164,7 @@ module _ (arena : List ℕ) (M : Made arena) (all : AllBytes arena) where
   unfolding hs n attemptHashes
   hashes-many = hashes-long (seedOf (M .attempt)) arena (keysOf arena)
 
-  whole : Whole hs (M .placing)
+  whole : AllPlaced hs (M .placing)
   unfolding hs
   whole = placed-whole arena (keysOf arena) (M .attempt) (M .placing) (M .any) (M .taken) .0
 
@@ -235,11 +236,11 @@ module _ (arena : List ℕ) (M : Made arena) (all : AllBytes arena) where
       ap (λ (x : ℕ). entryPlace body x j) (start-of ∙ sym (add-zero (length front)))
       ∙ ap (λ (z : List ℕ). entryPlace z (length front + 0) j) split ∙ place-moved front arena 0 j
 
-  key-of : (j : ℕ) → table.keyOf body j ≡ keyOf arena j
+  key-of : (j : ℕ) → table.bodyKey body j ≡ arenaKey arena j
   key-of j = ap (keyAt body) (place-of j) ∙ ap (λ (z : List ℕ). keyAt z (length front + entryPlace arena 0 j)) split ∙ key-moved front arena (entryPlace arena 0 j)
 
   -- the hash of key j
-  hash-of : (j : ℕ) → j < n → hashOf (seedIn body) (table.keyOf body j) ≡ getD hs j 0
+  hash-of : (j : ℕ) → j < n → hashOf (seedIn body) (table.bodyKey body j) ≡ getD hs j 0
   unfolding hs n seed attemptHashes
   hash-of j l = ap₂ hashOf seed-of (key-of j) ∙ sym (hash-at (seedOf (M .attempt)) arena (keysOf arena) j l)
 
@@ -286,14 +287,14 @@ module _ (arena : List ℕ) (M : Made arena) (all : AllBytes arena) where
   offset-of s ls j m l =
       offset-read arena (keysOf arena) (seedOf (M .attempt)) (M .placing) (M .most) pilots-many s ls (subst (λ (x : ℕ). entryPlace arena 0 x < 2 ^ 64) (sym m) (place-low j l)) ∙ ap (entryPlace arena 0) m
 
-  print-of : (s : ℕ) → s < length (M .placing .slots) → (j : ℕ) → getD (M .placing .slots) s 0 - 1 ≡ j → fingerprintWide body (slotPlace body s) ≡ fingerprintOf (hashOf seed (keyOf arena j))
+  print-of : (s : ℕ) → s < length (M .placing .slots) → (j : ℕ) → getD (M .placing .slots) s 0 - 1 ≡ j → fingerprintWide body (slotPlace body s) ≡ fingerprintOf (hashOf seed (arenaKey arena j))
   unfolding body n seed
   print-of s ls j m =
-      print-read arena (keysOf arena) (seedOf (M .attempt)) (M .placing) (M .most) pilots-many s ls ∙ ap (λ (x : ℕ). fingerprintOf (hashOf (seedOf (M .attempt)) (keyOf arena x))) m
+      print-read arena (keysOf arena) (seedOf (M .attempt)) (M .placing) (M .most) pilots-many s ls ∙ ap (λ (x : ℕ). fingerprintOf (hashOf (seedOf (M .attempt)) (arenaKey arena x))) m
 
-  belongs : (j : ℕ) → j < n → Belongs body (keySlot body (table.keyOf body j)) j
+  belongs : (j : ℕ) → j < n → Belongs body (keySlot body (table.bodyKey body j)) j
   belongs j l =
-      let h = hashOf (seedIn body) (table.keyOf body j) in
+      let h = hashOf (seedIn body) (table.bodyKey body j) in
       let s = slotOf body h in
       let es : s ≡ indexOf (getD hs j 0) (M .placing .pilots) n = slot-of h ∙ ap (λ (x : ℕ). indexOf x (M .placing .pilots) n) (hash-of j l) in
       let f = holds j l s es in
@@ -310,7 +311,7 @@ module _ (arena : List ℕ) (M : Made arena) (all : AllBytes arena) where
   unfolding body n
   long = body-long arena (keysOf arena) (seedOf (M .attempt)) (M .placing) pilots-many slots-many
 
-  magic-of : take 8 body ≡ magic
+  magic-of : take 8 body ≡ indexMagic
   unfolding body
   magic-of = magic-read arena (keysOf arena) (seedOf (M .attempt)) (M .placing) (M .most)
 
@@ -321,7 +322,7 @@ module _ (arena : List ℕ) (M : Made arena) (all : AllBytes arena) where
       let some = some-arena in
       let most = M .most in
       header-on body 0 0 n (bucketsOf n) (arenaStart n)
-      (sym (magic-is body true (omega (arith, long)) (ap (λ (z : List ℕ). sameAs z magic) magic-of ∙ same-self magic))) refl (sym keys-of) (sym buckets-of) (sym (start-of ∙ front-long))
+      (sym (magic-is body true (omega (arith, long)) (ap (λ (z : List ℕ). sameAs z indexMagic) magic-of ∙ same-self indexMagic))) refl (sym keys-of) (sym buckets-of) (sym (start-of ∙ front-long))
       (dimensions-fine (length body) n (bucketsOf n) (arenaStart n) any-key (omega arith) refl st (omega (arith, long)))
 
   pilots-passed : pilotsRefusal body (keysIn body) 0 (bucketsIn body) ≡ 0

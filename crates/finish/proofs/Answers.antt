@@ -8,10 +8,12 @@ use mathlib.Core.List.{List, [], _∷_}
 use mathlib.Core.Option.{Option, none, some}
 use mathlib.Core.Logic.{_⊎_, inl, inr}
 use lib.ListN.{length}
-use Rattle.laws.specs.Refusals.{cause, First, first-given, first-only}
+use Rattle.laws.specs.Refusals.{cause, First}
+use Rattle.laws.proofs.RefusalLaws.{first-given, first-only}
 use Rattle.laws.specs.Refusals.First.{here, later}
-use Rattle.laws.specs.RefusalLaws.{FirstOfTwo, two-only}
-use Rattle.laws.specs.RefusalLaws.FirstOfTwo.{by-first, by-second}
+use Rattle.laws.specs.Refusals.{FirstOfTwo}
+use Rattle.laws.proofs.RefusalLaws.{two-only}
+use Rattle.laws.specs.Refusals.FirstOfTwo.{by-first, by-second}
 use Rattle.mixing.specs.Mixing.{seedOf}
 use Rattle.construct.specs.Construct.{Placing, attemptOf}
 use Rattle.construct.specs.Keys.{attemptHashes}
@@ -21,7 +23,7 @@ use Rattle.construct.proofs.Failing.{fails-attempt, attempt-fails}
 use Rattle.construct.proofs.Exhausting.{all-fail, none-left}
 use Rattle.finish.specs.declared.Finished.{Finished}
 use Rattle.finish.specs.Body.{placedOf}
-use Rattle.finish.specs.Finish.{walked, keysOf, lengthCauses, lengthRefusal, unplaced, mismatched, placingCauses, lengthsRefusal, placingRefusal, finishCauses, finishRefusal, answered, bodyLength, finishOf, FinishPost, finishedNumber, finishedValues}
+use Rattle.finish.specs.Finish.{walked, keysOf, walkedCauses, walkedRefusal, unplaced, mismatched, placingCauses, lengthsRefusal, placingRefusal, finishCauses, finishRefusal, answered, bodyLength, finishOf, FinishPost, finishedNumber, finishedValues}
 use Rattle.finish.proofs.LengthLaws.{lengths}
 use Rattle.finish.proofs.FinishLaws.{refused-by, refused-late}
 use Rattle.finish.proofs.SelfCheck.{check-passes}
@@ -58,10 +60,10 @@ module _ (arena : List ℕ) (out wide narrow : ℕ) where
   -- a number above 9 is given past the length checks, by the placing
   past-lengths : (r : ℕ) → 9 < r → finishedNumber (finishOf arena out wide narrow) ≡ r
       → (lengthsRefusal arena out wide narrow ≡ 0) × (placingRefusal arena (keysOf arena) ≡ r)
-  unfolding lengthRefusal
+  unfolding walkedRefusal
   past-lengths r l e = go (two-only r _ _ (sym (refused-by arena out wide narrow) ∙ sym finish-number ∙ e))
     where
-      other : First r (lengthCauses (length arena) (walked arena .end) (keysOf arena) out wide narrow) → ⊥
+      other : First r (walkedCauses (length arena) (walked arena .end) (keysOf arena) out wide narrow) → ⊥
       other (here h z) = omega arith
       other (later h (here h1 z)) = omega arith
       other (later h (later h1 (here h2 z))) = omega arith
@@ -71,7 +73,7 @@ module _ (arena : List ℕ) (out wide narrow : ℕ) where
 
       go : FirstOfTwo r (lengthsRefusal arena out wide narrow) (placingRefusal arena (keysOf arena))
           → (lengthsRefusal arena out wide narrow ≡ 0) × (placingRefusal arena (keysOf arena) ≡ r)
-      go (by-first q) = absurd (other (first-only r (lengthCauses (length arena) (walked arena .end) (keysOf arena) out wide narrow) (omega arith) q))
+      go (by-first q) = absurd (other (first-only r (walkedCauses (length arena) (walked arena .end) (keysOf arena) out wide narrow) (omega arith) q))
       go (by-second z q) = (z, q)
 
   -- THEOREM: 10 exactly where nothing is refused before and each of the eight attempts fails
@@ -135,14 +137,14 @@ body-or-ten arena out wide narrow any z = go (placedOf arena (keysOf arena)) ref
     go (some (i, pl)) q e = inl (e ∙ rw (q, check-passes arena (keysOf arena) i pl any q))
 
 -- two results that meet the contract are the same
-pub record Same (r s : Finished) (o p w x u v : List ℕ) : Type 0 where
+pub record SameResult (r s : Finished) (o p w x u v : List ℕ) : Type 0 where
   pub answer : r ≡ s
   pub out : o ≡ p
   pub wide : w ≡ x
   pub narrow : u ≡ v
 
 -- THEOREM: finish's answer and every lent byte are fixed
-pub finish-one : (arena o w u : List ℕ) (r s : Finished) (o1 o2 w1 w2 u1 u2 : List ℕ) → FinishPost arena o w u r o1 w1 u1 → FinishPost arena o w u s o2 w2 u2 → Same r s o1 o2 w1 w2 u1 u2
+pub finish-one : (arena o w u : List ℕ) (r s : Finished) (o1 o2 w1 w2 u1 u2 : List ℕ) → FinishPost arena o w u r o1 w1 u1 → FinishPost arena o w u s o2 w2 u2 → SameResult r s o1 o2 w1 w2 u1 u2
 finish-one arena o w u r s o1 o2 w1 w2 u1 u2 p q = record {
   answer = p .answer ∙ sym (q .answer);
   out = p .out ∙ sym (q .out);

@@ -10,13 +10,13 @@ use lib.Seq.{getD-set-same, getD-set-other, length-take-le}
 use Rattle.words.specs.Field.{bytesOf, splice}
 use Rattle.words.proofs.Laws.{length-bytesOf, splice-then}
 use Rattle.mixing.specs.Mixing.{fingerprintOf}
-use Rattle.mixing.specs.Slots.{few-buckets}
-use Rattle.layout.specs.Layout.{magic}
+use Rattle.mixing.proofs.SlotLaws.{few-buckets}
+use Rattle.layout.specs.Layout.{indexMagic}
 use Rattle.records.specs.Places.{entryPlace}
 use Rattle.construct.specs.Construct.{bucketsOf, Placing}
 use Rattle.construct.specs.Layout.{placing}
 use Rattle.finish.specs.Body.{arenaStart, headerBytes, pilotsBytes, slotBytes, heldSlot, slotsBytes, bodyBytes}
-use Rattle.finish.specs.Needs.{Room, Listed, listedSlot, Filled, Written}
+use Rattle.finish.specs.Needs.{Room, PlacesListed, listedSlot, Filled, SlotsKnown}
 use Rattle.finish.proofs.RowLaws.{flat-same, flat-long}
 
 -- ---- lengths
@@ -56,17 +56,17 @@ start-is n b e = omega arith
 
 -- ---- parts written one after another
 
-pub header-written : (o0 o1 o2 o3 o4 o5 : List ℕ) (n seed b start : ℕ) → 32 ≤ length o0 → b ≡ bucketsOf n → start ≡ arenaStart n → o1 ≡ splice o0 0 magic → o2 ≡ splice o1 8 (bytesOf 8 seed)
+pub header-written : (o0 o1 o2 o3 o4 o5 : List ℕ) (n seed b start : ℕ) → 32 ≤ length o0 → b ≡ bucketsOf n → start ≡ arenaStart n → o1 ≡ splice o0 0 indexMagic → o2 ≡ splice o1 8 (bytesOf 8 seed)
     → o3 ≡ splice o2 16 (bytesOf 4 n) → o4 ≡ splice o3 20 (bytesOf 4 b) → o5 ≡ splice o4 24 (bytesOf 8 start) → o5 ≡ splice o0 0 (headerBytes seed n)
 unfolding headerBytes
 header-written o0 o1 o2 o3 o4 o5 n seed b start h eb es e1 e2 e3 e4 e5 =
-    let m2 = magic ++ bytesOf 8 seed in
+    let m2 = indexMagic ++ bytesOf 8 seed in
     let m3 = m2 ++ bytesOf 4 n in
     let m4 = m3 ++ bytesOf 4 b in
     let l2 : length m2 ≡ 16 = simp (length-append, length-bytesOf) in
     let l3 : length m3 ≡ 20 = simp (length-append, length-bytesOf) in
     let l4 : length m4 ≡ 24 = simp (length-append, length-bytesOf) in
-    let q2 : o2 ≡ splice o0 0 m2 = e2 ∙ ap (λ (z : List ℕ). splice z 8 (bytesOf 8 seed)) e1 ∙ splice-then o0 0 magic 8 (bytesOf 8 seed) (omega arith) refl in
+    let q2 : o2 ≡ splice o0 0 m2 = e2 ∙ ap (λ (z : List ℕ). splice z 8 (bytesOf 8 seed)) e1 ∙ splice-then o0 0 indexMagic 8 (bytesOf 8 seed) (omega arith) refl in
     let q3 : o3 ≡ splice o0 0 m3 = e3 ∙ ap (λ (z : List ℕ). splice z 16 (bytesOf 4 n)) q2 ∙ splice-then o0 0 m2 16 (bytesOf 4 n) (omega arith) (omega arith) in
     let q4 : o4 ≡ splice o0 0 m4 = e4 ∙ ap (λ (z : List ℕ). splice z 20 (bytesOf 4 b)) q3 ∙ splice-then o0 0 m3 20 (bytesOf 4 b) (omega arith) (omega arith) in
     e5 ∙ ap (λ (z : List ℕ). splice z 24 (bytesOf 8 start)) q4 ∙ splice-then o0 0 m4 24 (bytesOf 8 start) (omega arith) (omega arith) ∙ ap (splice o0 0) (simp append-assoc (rw (eb, es)))
@@ -96,7 +96,7 @@ listed-more arena h h0 n i p l len e keep so = (
     here m lm (no z) = getD-set-other h (n + i) (n + m) p 0 (λ q. z (omega arith)) ∙ so m (lt-of-le-of-ne (omega arith) z)
 
 -- the slots by what the workspace holds are the slots of the keys
-pub slots-listed : (arena h h′ w : List ℕ) (n seed : ℕ) → Listed arena n h h′ → Written arena h w n seed → (slots : List ℕ) → Filled n slots
+pub slots-listed : (arena h h′ w : List ℕ) (n seed : ℕ) → PlacesListed arena n h h′ → SlotsKnown arena h w n seed → (slots : List ℕ) → Filled n slots
     → flatMap (listedSlot h′ n) slots ≡ slotsBytes arena seed slots
 unfolding slotsBytes listedSlot heldSlot
 slots-listed arena h h′ w n seed L W slots F = flat-same (listedSlot h′ n) (heldSlot arena seed) slots same
@@ -146,7 +146,7 @@ front-written o0 o1 o2 n seed pilots h e1 e2 =
     let l = header-long seed n in
     e2 ∙ ap (λ (z : List ℕ). splice z 32 (pilotsBytes pilots)) e1 ∙ splice-then o0 0 (headerBytes seed n) 32 (pilotsBytes pilots) (omega arith) (omega arith)
 
-pub body-written : (arena o0 o1 o2 o3 h h′ w : List ℕ) (n seed b start : ℕ) (pilots slots : List ℕ) → Room arena o0 h w n → Written arena h w n seed → Listed arena n h h′ → b ≡ bucketsOf n → start ≡ arenaStart n
+pub body-written : (arena o0 o1 o2 o3 h h′ w : List ℕ) (n seed b start : ℕ) (pilots slots : List ℕ) → Room arena o0 h w n → SlotsKnown arena h w n seed → PlacesListed arena n h h′ → b ≡ bucketsOf n → start ≡ arenaStart n
     → pilots ≡ placing n (bucketsOf n) w .pilots → slots ≡ placing n (bucketsOf n) w .slots
     → o1 ≡ splice o0 0 (headerBytes seed n ++ pilotsBytes pilots) → o2 ≡ splice o1 (32 + 4 * b) (flatMap (listedSlot h′ (length slots)) slots) → o3 ≡ splice o2 start arena
     → o3 ≡ splice o0 0 (bodyBytes arena n seed (placing n (bucketsOf n) w))
@@ -168,7 +168,7 @@ body-written arena o0 o1 o2 o3 h h′ w n seed b start pilots slots R W L eb es 
     e3 ∙ ap (λ (z : List ℕ). splice z start arena) q2 ∙ splice-then o0 0 (front ++ body) start arena (omega arith) (omega arith) ∙ ap (splice o0 0) (simp append-assoc)
 
 -- what the writing of the slots asks, of the parts of what is lent
-pub slots-asked : (arena out h w : List ℕ) (n seed b : ℕ) (h′ out′ : List ℕ) → Room arena out h w n → Written arena h w n seed → b ≡ bucketsOf n → length h′ ≡ length h → length out′ ≡ length out → (slots : List ℕ) → slots ≡ placing n (bucketsOf n) w .slots
+pub slots-asked : (arena out h w : List ℕ) (n seed b : ℕ) (h′ out′ : List ℕ) → Room arena out h w n → SlotsKnown arena h w n seed → b ≡ bucketsOf n → length h′ ≡ length h → length out′ ≡ length out → (slots : List ℕ) → slots ≡ placing n (bucketsOf n) w .slots
     → Filled (length slots) slots × (length h′ ≡ length slots + length slots) × (32 + 4 * b + 12 * length slots ≤ length out′)
 slots-asked arena out h w n seed b h′ out′ R W eb eh eo slots es =
     let l : length slots ≡ n = ap length es ∙ room-slots arena out h w n R in

@@ -7,7 +7,7 @@ use mathlib.Core.List.{List}
 use lib.Dec.{eqb, ltb}
 use lib.ListN.{length, getD}
 use borrow.Author.Tests.{ltb-false, eqb-true, eqb-false, not-false, lt-ltb, le-ltb, eq-eqb, ne-eqb}
-use Rattle.laws.specs.Steps.{any-false}
+use Rattle.laws.proofs.StepsLaws.{any-false}
 use Rattle.construct.specs.Construct.{indexOf}
 use Rattle.finish.specs.Finish.{unmatched, unmatchedAt, mismatch}
 use Rattle.finish.specs.Needs.{Filled}

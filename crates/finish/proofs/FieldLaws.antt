@@ -9,11 +9,11 @@ use Rattle.words.specs.Field.{bytesOf}
 use Rattle.words.proofs.Laws.{length-bytesOf, bytesOf-append}
 use Rattle.words.proofs.WrittenLaws.{le-written}
 use Rattle.mixing.specs.Mixing.{hashOf, fingerprintOf, fingerprintOf-lt}
-use Rattle.mixing.specs.Slots.{few-buckets}
-use Rattle.layout.specs.Layout.{magic, seedIn, keysIn, bucketsIn, arenaIn, pilotAt, slotPlace, recordOffset, fingerprintWide}
+use Rattle.mixing.proofs.SlotLaws.{few-buckets}
+use Rattle.layout.specs.Layout.{indexMagic, seedIn, keysIn, bucketsIn, arenaIn, pilotAt, slotPlace, recordOffset, fingerprintWide}
 use Rattle.records.specs.Places.{entryPlace}
 use Rattle.construct.specs.Construct.{bucketsOf, Placing}
-use Rattle.construct.specs.Keys.{keyOf}
+use Rattle.construct.specs.Keys.{arenaKey}
 use Rattle.finish.specs.Body.{arenaStart, headerBytes, pilotsBytes, slotBytes, heldSlot, slotsBytes, bodyBytes}
 use Rattle.finish.proofs.RowLaws.{flat-split, flat-long}
 use Rattle.finish.proofs.BodyLaws.{header-long, held-long, pilots-long, slots-long, start-is}
@@ -30,30 +30,30 @@ module _ (arena : List ℕ) (n seed : ℕ) (pl : Placing) (most : n ≤ 65536) w
   rest : List ℕ
   rest = pilotsBytes (pl .pilots) ++ (slotsBytes arena seed (pl .slots) ++ arena)
 
-  pub magic-read : take 8 (bodyBytes arena n seed pl) ≡ magic
+  pub magic-read : take 8 (bodyBytes arena n seed pl) ≡ indexMagic
   unfolding bodyBytes headerBytes
   magic-read = refl
 
   pub seed-read : seed < 2 ^ 64 → seedIn (bodyBytes arena n seed pl) ≡ seed
   unfolding bodyBytes headerBytes rest
-  seed-read h = le-written 8 seed 8 (bodyBytes arena n seed pl) magic (bytesOf 4 n ++ (bytesOf 4 (bucketsOf n) ++ (bytesOf 8 (arenaStart n) ++ rest))) h refl (simp append-assoc)
+  seed-read h = le-written 8 seed 8 (bodyBytes arena n seed pl) indexMagic (bytesOf 4 n ++ (bytesOf 4 (bucketsOf n) ++ (bytesOf 8 (arenaStart n) ++ rest))) h refl (simp append-assoc)
 
   pub keys-read : keysIn (bodyBytes arena n seed pl) ≡ n
   unfolding bodyBytes headerBytes rest
   keys-read =
-      le-written 4 n 16 (bodyBytes arena n seed pl) (magic ++ bytesOf 8 seed) (bytesOf 4 (bucketsOf n) ++ (bytesOf 8 (arenaStart n) ++ rest)) (omega arith)
+      le-written 4 n 16 (bodyBytes arena n seed pl) (indexMagic ++ bytesOf 8 seed) (bytesOf 4 (bucketsOf n) ++ (bytesOf 8 (arenaStart n) ++ rest)) (omega arith)
       (simp (length-append, length-bytesOf)) (simp append-assoc)
 
   pub buckets-read : bucketsIn (bodyBytes arena n seed pl) ≡ bucketsOf n
   unfolding bodyBytes headerBytes rest
   buckets-read =
-      le-written 4 (bucketsOf n) 20 (bodyBytes arena n seed pl) (magic ++ (bytesOf 8 seed ++ bytesOf 4 n)) (bytesOf 8 (arenaStart n) ++ rest) (omega (arith, few-buckets n))
+      le-written 4 (bucketsOf n) 20 (bodyBytes arena n seed pl) (indexMagic ++ (bytesOf 8 seed ++ bytesOf 4 n)) (bytesOf 8 (arenaStart n) ++ rest) (omega (arith, few-buckets n))
       (simp (length-append, length-bytesOf)) (simp append-assoc)
 
   pub start-read : arenaIn (bodyBytes arena n seed pl) ≡ arenaStart n
   unfolding bodyBytes headerBytes rest
   start-read =
-      le-written 8 (arenaStart n) 24 (bodyBytes arena n seed pl) (magic ++ (bytesOf 8 seed ++ (bytesOf 4 n ++ bytesOf 4 (bucketsOf n)))) rest (omega (arith, few-buckets n, start-is n (bucketsOf n) refl))
+      le-written 8 (arenaStart n) 24 (bodyBytes arena n seed pl) (indexMagic ++ (bytesOf 8 seed ++ (bytesOf 4 n ++ bytesOf 4 (bucketsOf n)))) rest (omega (arith, few-buckets n, start-is n (bucketsOf n) refl))
       (simp (length-append, length-bytesOf)) (simp append-assoc)
 
   pub pilot-read : (k : ℕ) → k < length (pl .pilots) → getD (pl .pilots) k 0 < 2 ^ 32 → pilotAt (bodyBytes arena n seed pl) k ≡ getD (pl .pilots) k 0
@@ -90,13 +90,13 @@ module _ (arena : List ℕ) (n seed : ℕ) (pl : Placing) (most : n ≤ 65536) w
     unfolding held heldSlot slotBytes
     offset-read h =
         le-written 8 (entryPlace arena 0 (held - 1)) (slotPlace (bodyBytes arena n seed pl) s) (bodyBytes arena n seed pl) before
-        (bytesOf 2 (fingerprintOf (hashOf seed (keyOf arena (held - 1)))) ++ (bytesOf 2 0 ++ behind)) h before-long (around ∙ simp append-assoc)
+        (bytesOf 2 (fingerprintOf (hashOf seed (arenaKey arena (held - 1)))) ++ (bytesOf 2 0 ++ behind)) h before-long (around ∙ simp append-assoc)
 
-    pub print-read : fingerprintWide (bodyBytes arena n seed pl) (slotPlace (bodyBytes arena n seed pl) s) ≡ fingerprintOf (hashOf seed (keyOf arena (getD (pl .slots) s 0 - 1)))
+    pub print-read : fingerprintWide (bodyBytes arena n seed pl) (slotPlace (bodyBytes arena n seed pl) s) ≡ fingerprintOf (hashOf seed (arenaKey arena (getD (pl .slots) s 0 - 1)))
     unfolding held heldSlot slotBytes
     print-read =
-        let fp = fingerprintOf (hashOf seed (keyOf arena (held - 1))) in
-        let low : fp < 2 ^ 16 = fingerprintOf-lt (hashOf seed (keyOf arena (held - 1))) in
+        let fp = fingerprintOf (hashOf seed (arenaKey arena (held - 1))) in
+        let low : fp < 2 ^ 16 = fingerprintOf-lt (hashOf seed (arenaKey arena (held - 1))) in
         le-written 4 fp (slotPlace (bodyBytes arena n seed pl) s + 8) (bodyBytes arena n seed pl) (before ++ bytesOf 8 (entryPlace arena 0 (held - 1))) behind (omega arith)
         (length-append before (bytesOf 8 (entryPlace arena 0 (held - 1))) ∙ omega (arith, before-long, length-bytesOf 8 (entryPlace arena 0 (held - 1))))
         (around ∙ sym (ap (λ (z : List ℕ). (before ++ bytesOf 8 (entryPlace arena 0 (held - 1))) ++ (z ++ behind)) (wide-print fp low) ∙ simp append-assoc))

@@ -14,19 +14,19 @@ use lib.Dec.{eqb}
 use borrow.Author.Tests.{ne-eqb}
 use Rattle.laws.specs.Refusals.{Cause, firstOf, orElse, Numbered}
 use Rattle.laws.specs.Refusals.Numbered.{numbered-none, numbered-more}
-use Rattle.laws.specs.RefusalLaws.{orElse-stop}
+use Rattle.laws.proofs.RefusalLaws.{orElse-stop}
 use Rattle.words.specs.Field.{splice}
 use Rattle.mixing.specs.Mixing.{hashOf, seedOf}
-use Rattle.mixing.specs.Slots.{few-buckets}
+use Rattle.mixing.proofs.SlotLaws.{few-buckets}
 use Rattle.construct.specs.Construct.{bucketsOf, Placing, constructOf}
-use Rattle.construct.specs.Keys.{keyOf, hashesOf, attemptHashes}
+use Rattle.construct.specs.Keys.{arenaKey, hashesOf, attemptHashes}
 use Rattle.records.specs.declared.DataLength.the-variants.{Untested}
 use Rattle.records.specs.declared.Walked.{Walked}
 use Rattle.records.specs.Places.{entryPlace}
 use Rattle.records.specs.Rules.{unslotted}
 use Rattle.records.specs.Walk.{walkFrom}
 use Rattle.records.proofs.PassedLaws.{walk-ends}
-use Rattle.construct.specs.Layout.{placing, answerOf, Lent}
+use Rattle.construct.specs.Layout.{placing, constructedOf, Lent}
 use Rattle.construct.specs.Layout as lay
 use Rattle.construct.specs.declared.Constructed.{Constructed}
 use Rattle.construct.specs.declared.Constructed.the-variants.{Placed, Exhausted}
@@ -34,8 +34,8 @@ use Rattle.construct.proofs.KeysLaws.{hashes-long}
 use Rattle.finish.specs.declared.Finished.{Finished}
 use Rattle.finish.specs.declared.Finished.the-variants.{Body, Refused}
 use Rattle.finish.specs.Body.{arenaStart, bodyBytes, placedOf, bodyFrom, bodyOf}
-use Rattle.finish.specs.Finish.{lengthCauses, placingCauses, lengthRefusal, mismatch, placingRefusal, lengthsRefusal, keysOf, walked, finishRefusal, answered, bodyLength, finishOf, outAfter, spaceAfter, FinishPost}
-use Rattle.finish.specs.Needs.{Room, Chosen, Built, Written, Filled}
+use Rattle.finish.specs.Finish.{walkedCauses, placingCauses, walkedRefusal, mismatch, placingRefusal, lengthsRefusal, keysOf, walked, finishRefusal, answered, bodyLength, finishOf, outAfter, spaceAfter, FinishPost}
+use Rattle.finish.specs.Needs.{Room, AttemptTaken, BodyPost, SlotsKnown, Filled}
 use Rattle.finish.proofs.LengthLaws.{Lengths, lengths}
 use Rattle.finish.proofs.CheckLaws.{all-filled}
 
@@ -50,16 +50,16 @@ first-append (c ∷ cs) ds (numbered-more p r) = go (c .holds) (first-append cs 
     go true e = sym (orElse-stop (c .number) (firstOf ds) (λ z. omega arith))
     go false e = e
 
-numbered-lengths : (size end n out wide narrow : ℕ) → Numbered (lengthCauses size end n out wide narrow)
+numbered-lengths : (size end n out wide narrow : ℕ) → Numbered (walkedCauses size end n out wide narrow)
 numbered-lengths size end n out wide narrow =
     numbered-more (zero-lt-suc 7)
     (numbered-more (zero-lt-suc 4) (numbered-more (zero-lt-suc 4) (numbered-more (zero-lt-suc 8) (numbered-more (zero-lt-suc 8) (numbered-more (zero-lt-suc 5) numbered-none)))))
 
 module _ (arena : List ℕ) (out wide narrow : ℕ) where
   pub refused-by : finishRefusal arena out wide narrow ≡ orElse (lengthsRefusal arena out wide narrow) (placingRefusal arena (keysOf arena))
-  unfolding finishRefusal lengthRefusal placingRefusal
+  unfolding finishRefusal walkedRefusal placingRefusal
   refused-by =
-      first-append (lengthCauses (length arena) (walked arena .end) (keysOf arena) out wide narrow) (placingCauses arena (keysOf arena))
+      first-append (walkedCauses (length arena) (walked arena .end) (keysOf arena) out wide narrow) (placingCauses arena (keysOf arena))
       (numbered-lengths (length arena) (walked arena .end) (keysOf arena) out wide narrow)
 
   -- a refusal before the keys are placed
@@ -90,19 +90,19 @@ room-kept arena out h w h′ w′ n R eh ew =
 -- ---- what construct left
 
 module _ (arena h w : List ℕ) (n : ℕ) where
-  pub exhausted : (r : Constructed) → r ≡ Exhausted → lay.Built (attemptHashes arena n) n h w r → placedOf arena n ≡ none
+  pub exhausted : (r : Constructed) → r ≡ Exhausted → lay.ConstructPost (attemptHashes arena n) n h w r → placedOf arena n ≡ none
   unfolding placedOf
   exhausted r er B = go (constructOf (attemptHashes arena n)) (sym er ∙ B .answer)
     where
-      go : (o : Option (ℕ × Placing)) → Exhausted ≡ answerOf o → o ≡ none
+      go : (o : Option (ℕ × Placing)) → Exhausted ≡ constructedOf o → o ≡ none
       go none e = refl
       go (some (i, pl)) e = absurd (let z : _≡_ {A = ℕ} 0 1 = cc in omega arith)
 
-  pub chosen : (i : ℕ) (r : Constructed) → r ≡ Placed i → lay.Built (attemptHashes arena n) n h w r → Chosen arena h w n i
+  pub chosen : (i : ℕ) (r : Constructed) → r ≡ Placed i → lay.ConstructPost (attemptHashes arena n) n h w r → AttemptTaken arena h w n i
   unfolding placedOf
   chosen i r er B = go (constructOf (attemptHashes arena n)) refl (sym er ∙ B .answer)
     where
-      go : (o : Option (ℕ × Placing)) → constructOf (attemptHashes arena n) ≡ o → Placed i ≡ answerOf o → Chosen arena h w n i
+      go : (o : Option (ℕ × Placing)) → constructOf (attemptHashes arena n) ≡ o → Placed i ≡ constructedOf o → AttemptTaken arena h w n i
       go none e q = absurd (let z : _≡_ {A = ℕ} 0 1 = cc in omega arith)
       go (some (j, pl)) e q =
           let ij : i ≡ j = cc in
@@ -112,18 +112,18 @@ module _ (arena h w : List ℕ) (n : ℕ) where
           }
 
 -- hash m of the first n
-pub hash-at : (seed : ℕ) (arena : List ℕ) (n m : ℕ) → m < n → getD (hashesOf seed arena n) m 0 ≡ hashOf seed (keyOf arena m)
+pub hash-at : (seed : ℕ) (arena : List ℕ) (n m : ℕ) → m < n → getD (hashesOf seed arena n) m 0 ≡ hashOf seed (arenaKey arena m)
 unfolding hashesOf
 hash-at seed arena zero m l = absurd (omega arith)
 hash-at seed arena (suc n) m l = go (ℕ-discrete m n) (λ lt. hash-at seed arena n m lt)
   where
-    go : Dec (m ≡ n) → (m < n → getD (hashesOf seed arena n) m 0 ≡ hashOf seed (keyOf arena m)) → getD (hashesOf seed arena n ++ (hashOf seed (keyOf arena n) ∷ [])) m 0 ≡ hashOf seed (keyOf arena m)
-    go (yes e) rest = getD-at (hashesOf seed arena n) (hashOf seed (keyOf arena n)) [] 0 m (hashes-long seed arena n ∙ sym e) ∙ ap (λ (x : ℕ). hashOf seed (keyOf arena x)) (sym e)
+    go : Dec (m ≡ n) → (m < n → getD (hashesOf seed arena n) m 0 ≡ hashOf seed (arenaKey arena m)) → getD (hashesOf seed arena n ++ (hashOf seed (arenaKey arena n) ∷ [])) m 0 ≡ hashOf seed (arenaKey arena m)
+    go (yes e) rest = getD-at (hashesOf seed arena n) (hashOf seed (arenaKey arena n)) [] 0 m (hashes-long seed arena n ∙ sym e) ∙ ap (λ (x : ℕ). hashOf seed (arenaKey arena x)) (sym e)
     go (no e) rest =
         let lt : m < n = lt-of-le-of-ne (omega arith) e in
-        List·getD-append (hashesOf seed arena n) (hashOf seed (keyOf arena n) ∷ []) 0 m (omega (arith, hashes-long seed arena n)) ∙ rest lt
+        List·getD-append (hashesOf seed arena n) (hashOf seed (arenaKey arena n) ∷ []) 0 m (omega (arith, hashes-long seed arena n)) ∙ rest lt
 
-module _ (arena h w : List ℕ) (n i : ℕ) (C : Chosen arena h w n i) where
+module _ (arena h w : List ℕ) (n i : ℕ) (C : AttemptTaken arena h w n i) where
   -- 11 by the self-check of what was left
   pub chosen-refusal : (pilots slots : List ℕ) (t : Bool) → pilots ≡ placing n (bucketsOf n) w .pilots → slots ≡ placing n (bucketsOf n) w .slots → mismatch (take n h) pilots slots ≡ t → placingRefusal arena n ≡ cond t 11 0
   unfolding placingRefusal
@@ -142,38 +142,38 @@ module _ (arena h w : List ℕ) (n i : ℕ) (C : Chosen arena h w n i) where
   chosen-out out out′ seed es q = q ∙ ap (λ (x : ℕ). splice out 0 (bodyBytes arena n x (placing n (bucketsOf n) w))) es ∙ ap (splice out 0) (sym chosen-body)
 
   -- the hashes, and that every slot holds a key where the self-check passes
-  pub chosen-written : (seed : ℕ) (pilots slots : List ℕ) → seed ≡ seedOf i → slots ≡ placing n (bucketsOf n) w .slots → length (placing n (bucketsOf n) w .slots) ≡ n → mismatch (take n h) pilots slots ≡ false → Written arena h w n seed
+  pub chosen-written : (seed : ℕ) (pilots slots : List ℕ) → seed ≡ seedOf i → slots ≡ placing n (bucketsOf n) w .slots → length (placing n (bucketsOf n) w .slots) ≡ n → mismatch (take n h) pilots slots ≡ false → SlotsKnown arena h w n seed
   unfolding attemptHashes
   chosen-written seed pilots slots es eq l e = record {
-    hashes = λ m lm. sym (getD-take n h m 0 lm) ∙ ap (λ (z : List ℕ). getD z m 0) (C .hashes) ∙ hash-at (seedOf i) arena n m lm ∙ ap (λ (x : ℕ). hashOf x (keyOf arena m)) (sym es);
+    hashes = λ m lm. sym (getD-take n h m 0 lm) ∙ ap (λ (z : List ℕ). getD z m 0) (C .hashes) ∙ hash-at (seedOf i) arena n m lm ∙ ap (λ (x : ℕ). hashOf x (arenaKey arena m)) (sym es);
     slots = subst (λ (z : List ℕ). Filled n z) eq (subst (λ (x : ℕ). Filled x slots) (ap length eq ∙ l) (all-filled (take n h) pilots slots e));
   }
 
 -- ---- what was built
 
-pub built-ten : (arena out : List ℕ) (n : ℕ) → placedOf arena n ≡ none → Built arena out n (Refused 10) out
+pub built-ten : (arena out : List ℕ) (n : ℕ) → placedOf arena n ≡ none → BodyPost arena out n (Refused 10) out
 unfolding placingRefusal
 built-ten arena out n e = record { answer = rw e; written = rw e }
 
-pub built-eleven : (arena out : List ℕ) (n : ℕ) → placingRefusal arena n ≡ 11 → Built arena out n (Refused 11) out
+pub built-eleven : (arena out : List ℕ) (n : ℕ) → placingRefusal arena n ≡ 11 → BodyPost arena out n (Refused 11) out
 built-eleven arena out n e = record { answer = rw e; written = rw e }
 
-pub built-body : (arena out out′ : List ℕ) (n start : ℕ) → placingRefusal arena n ≡ 0 → start ≡ arenaStart n → out′ ≡ splice out 0 (bodyOf arena n) → Built arena out n (Body (start + length arena)) out′
+pub built-body : (arena out out′ : List ℕ) (n start : ℕ) → placingRefusal arena n ≡ 0 → start ≡ arenaStart n → out′ ≡ splice out 0 (bodyOf arena n) → BodyPost arena out n (Body (start + length arena)) out′
 built-body arena out out′ n start e es q = record { answer = rw (e, es); written = rw e q }
 
 -- ---- what finish leaves
 
 module _ (arena o w u : List ℕ) (k : Walked) (ek : k ≡ walkFrom unslotted arena Untested 0 0 (length arena)) where
-  by-walk : lengthRefusal (length arena) (k .end) (k .keys) (length o) (length w) (length u) ≡ lengthsRefusal arena (length o) (length w) (length u)
+  by-walk : walkedRefusal (length arena) (k .end) (k .keys) (length o) (length w) (length u) ≡ lengthsRefusal arena (length o) (length w) (length u)
   unfolding walked
-  by-walk = ap (λ (x : Walked). lengthRefusal (length arena) (x .end) (x .keys) (length o) (length w) (length u)) ek
+  by-walk = ap (λ (x : Walked). walkedRefusal (length arena) (x .end) (x .keys) (length o) (length w) (length u)) ek
 
   keys-walked : k .keys ≡ keysOf arena
   unfolding walked
   keys-walked = ap (λ (x : Walked). x .keys) ek
 
   -- refused before the keys are placed: nothing is written
-  pub post-early : (r : ℕ) → r ≡ lengthRefusal (length arena) (k .end) (k .keys) (length o) (length w) (length u) → (r ≡ 0 → ⊥) → FinishPost arena o w u (Refused r) o w u
+  pub post-early : (r : ℕ) → r ≡ walkedRefusal (length arena) (k .end) (k .keys) (length o) (length w) (length u) → (r ≡ 0 → ⊥) → FinishPost arena o w u (Refused r) o w u
   unfolding finishOf outAfter
   post-early r e n =
       let e′ : lengthsRefusal arena (length o) (length w) (length u) ≡ r = sym (e ∙ by-walk) in
@@ -185,7 +185,7 @@ module _ (arena o w u : List ℕ) (k : Walked) (ek : k ≡ walkFrom unslotted ar
         narrow = sym (ap (λ (x : ℕ). spaceAfter x u) e′ ∙ ap (λ (t : Bool). cond t (replicate (length u) 0) u) (ne-eqb r 0 n));
       }
 
-  module _ (passed : lengthRefusal (length arena) (k .end) (k .keys) (length o) (length w) (length u) ≡ 0) where
+  module _ (passed : walkedRefusal (length arena) (k .end) (k .keys) (length o) (length w) (length u) ≡ 0) where
     pub length-facts : Lengths (length arena) (k .end) (k .keys) (length o) (length w) (length u)
     length-facts = lengths (length arena) (k .end) (k .keys) (length o) (length w) (length u) passed
 
@@ -208,7 +208,7 @@ module _ (arena o w u : List ℕ) (k : Walked) (ek : k ≡ walkFrom unslotted ar
     }
 
     -- the keys placed or not: the output as that leaves it, the workspace zero
-    pub post-late : (r : Finished) (o′ w′ u′ : List ℕ) → Built arena o (k .keys) r o′ → w′ ≡ replicate (length w) 0 → u′ ≡ replicate (length u) 0 → FinishPost arena o w u r o′ w′ u′
+    pub post-late : (r : Finished) (o′ w′ u′ : List ℕ) → BodyPost arena o (k .keys) r o′ → w′ ≡ replicate (length w) 0 → u′ ≡ replicate (length u) 0 → FinishPost arena o w u r o′ w′ u′
     unfolding finishOf outAfter
     post-late r o′ w′ u′ B ew eu =
         let z : lengthsRefusal arena (length o) (length w) (length u) ≡ 0 = sym by-walk ∙ passed in

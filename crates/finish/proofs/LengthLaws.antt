@@ -7,40 +7,40 @@ use lib.Dec.{eqb, ltb}
 use borrow.Author.Tests.{ltb-false, eqb-true, eqb-false, not-false, lt-ltb, le-ltb, eq-eqb, ne-eqb}
 use Rattle.layout.proofs.HeaderLaws.{passes}
 use Rattle.finish.specs.Body.{arenaStart}
-use Rattle.finish.specs.Finish.{lengthRefusal}
+use Rattle.finish.specs.Finish.{walkedRefusal}
 
 module _ (size end n out wide narrow : ℕ) where
-  pub length-broken : (end ≡ size → ⊥) → 8 ≡ lengthRefusal size end n out wide narrow
-  unfolding lengthRefusal
+  pub length-broken : (end ≡ size → ⊥) → 8 ≡ walkedRefusal size end n out wide narrow
+  unfolding walkedRefusal
   length-broken h = rw (ne-eqb end size h)
 
   module _ (e : end ≡ size) where
-    pub length-empty : n ≡ 0 → 5 ≡ lengthRefusal size end n out wide narrow
-    unfolding lengthRefusal
+    pub length-empty : n ≡ 0 → 5 ≡ walkedRefusal size end n out wide narrow
+    unfolding walkedRefusal
     length-empty h = rw (eq-eqb end size e, eq-eqb n 0 h)
 
     module _ (some : n ≡ 0 → ⊥) where
-      pub length-many : 65536 < n → 5 ≡ lengthRefusal size end n out wide narrow
-      unfolding lengthRefusal
+      pub length-many : 65536 < n → 5 ≡ walkedRefusal size end n out wide narrow
+      unfolding walkedRefusal
       length-many h = rw (eq-eqb end size e, ne-eqb n 0 some, lt-ltb 65536 n h)
 
       module _ (few : n ≤ 65536) where
-        pub length-wide : wide < 2 * n → 9 ≡ lengthRefusal size end n out wide narrow
-        unfolding lengthRefusal
+        pub length-wide : wide < 2 * n → 9 ≡ walkedRefusal size end n out wide narrow
+        unfolding walkedRefusal
         length-wide h = rw (eq-eqb end size e, ne-eqb n 0 some, le-ltb 65536 n few, lt-ltb wide (2 * n) h)
 
         module _ (w : 2 * n ≤ wide) where
-          pub length-narrow : narrow < 8 * n + 8 → 9 ≡ lengthRefusal size end n out wide narrow
-          unfolding lengthRefusal
+          pub length-narrow : narrow < 8 * n + 8 → 9 ≡ walkedRefusal size end n out wide narrow
+          unfolding walkedRefusal
           length-narrow h = rw (eq-eqb end size e, ne-eqb n 0 some, le-ltb 65536 n few, le-ltb wide (2 * n) w, lt-ltb narrow (8 * n + 8) h)
 
           module _ (u : 8 * n + 8 ≤ narrow) where
-            pub length-out : out < arenaStart n + size → 6 ≡ lengthRefusal size end n out wide narrow
-            unfolding lengthRefusal
+            pub length-out : out < arenaStart n + size → 6 ≡ walkedRefusal size end n out wide narrow
+            unfolding walkedRefusal
             length-out h = rw (eq-eqb end size e, ne-eqb n 0 some, le-ltb 65536 n few, le-ltb wide (2 * n) w, le-ltb narrow (8 * n + 8) u, lt-ltb out (arenaStart n + size) h)
 
-            pub length-fits : arenaStart n + size ≤ out → 0 ≡ lengthRefusal size end n out wide narrow
-            unfolding lengthRefusal
+            pub length-fits : arenaStart n + size ≤ out → 0 ≡ walkedRefusal size end n out wide narrow
+            unfolding walkedRefusal
             length-fits h = rw (eq-eqb end size e, ne-eqb n 0 some, le-ltb 65536 n few, le-ltb wide (2 * n) w, le-ltb narrow (8 * n + 8) u, le-ltb out (arenaStart n + size) h)
 
   -- what it says that none was given
@@ -52,8 +52,8 @@ module _ (size end n out wide narrow : ℕ) where
     pub narrow-long : 8 * n + 8 ≤ narrow
     pub room : arenaStart n + size ≤ out
 
-  pub lengths : lengthRefusal size end n out wide narrow ≡ 0 → Lengths
-  unfolding lengthRefusal
+  pub lengths : walkedRefusal size end n out wide narrow ≡ 0 → Lengths
+  unfolding walkedRefusal
   lengths h =
       let e1 = passes (not (eqb end size)) 7 _ h in
       let e2 = passes (eqb n 0) 4 _ (e1 .1) in

@@ -7,10 +7,10 @@ use mathlib.Core.List.{List}
 use mathlib.Core.Option.{some}
 use lib.ListN.{length, getD}
 use borrow.Author.Tests.{le-ltb, eq-eqb, ne-eqb}
-use Rattle.laws.specs.Steps.{none-passes}
+use Rattle.laws.proofs.StepsLaws.{none-passes}
 use Rattle.construct.specs.Construct.{Placing, indexOf}
 use Rattle.construct.specs.Keys.{attemptHashes}
-use Rattle.construct.specs.Promised.{Whole, Pilots}
+use Rattle.construct.specs.Promised.{AllPlaced, Pilots}
 use Rattle.construct.proofs.KeysLaws.{hashes-long}
 use Rattle.construct.proofs.Exhausting.{taken-whole}
 use Rattle.finish.specs.Body.{placedOf}
@@ -26,7 +26,7 @@ slot-passes hs pilots n s held m e l q =
     rw (ne-eqb held 0 filled, low, at, q, eq-eqb s s refl)
 
 -- the slots of a whole placing
-pub whole-matched : (hs : List ℕ) (pl : Placing) → Whole hs pl → mismatch hs (pl .pilots) (pl .slots) ≡ false
+pub whole-matched : (hs : List ℕ) (pl : Placing) → AllPlaced hs pl → mismatch hs (pl .pilots) (pl .slots) ≡ false
 unfolding mismatch unmatchedAt
 whole-matched hs pl W = none-passes (unmatchedAt hs (pl .pilots) (pl .slots)) (length (pl .slots)) each
   where
@@ -37,7 +37,7 @@ whole-matched hs pl W = none-passes (unmatchedAt hs (pl .pilots) (pl .slots)) (l
         slot-passes hs (pl .pilots) (length (pl .slots)) s (getD (pl .slots) s 0) (h .0) (h .2) (omega (arith, h .1)) (ap (indexOf (getD hs (h .0) 0) (pl .pilots)) long ∙ h .3)
 
 -- the placing that is taken for n keys is whole, and its pilots are the least
-pub placed-whole : (arena : List ℕ) (n i : ℕ) (pl : Placing) → 0 < n → placedOf arena n ≡ some (i, pl) → Whole (attemptHashes arena n i) pl × Pilots (attemptHashes arena n i) (pl .pilots)
+pub placed-whole : (arena : List ℕ) (n i : ℕ) (pl : Placing) → 0 < n → placedOf arena n ≡ some (i, pl) → AllPlaced (attemptHashes arena n i) pl × Pilots (attemptHashes arena n i) (pl .pilots)
 unfolding placedOf attemptHashes
 placed-whole arena n i pl any e = taken-whole (attemptHashes arena n) (λ j. subst (λ (x : ℕ). 0 < x) (sym (hashes-long _ arena n)) any) i pl e
 

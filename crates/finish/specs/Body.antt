@@ -4,10 +4,10 @@ use mathlib.Core.List.{List, [], _++_, flatMap}
 use mathlib.Core.Option.{Option, none, some}
 use Rattle.words.specs.Field.{bytesOf}
 use Rattle.mixing.specs.Mixing.{hashOf, fingerprintOf, seedOf}
-use Rattle.layout.specs.Layout.{magic, slotAt}
+use Rattle.layout.specs.Layout.{indexMagic, slotAt}
 use Rattle.records.specs.Places.{entryPlace}
 use Rattle.construct.specs.Construct.{bucketsOf, Placing, constructOf}
-use Rattle.construct.specs.Keys.{keyOf, attemptHashes}
+use Rattle.construct.specs.Keys.{arenaKey, attemptHashes}
 
 -- arena start = 32 + 4b + 12n
 unfoldable pub arenaStart : ℕ → ℕ
@@ -15,7 +15,7 @@ arenaStart n = slotAt (bucketsOf n) n
 
 -- `KIBANPH2`, u64 seed, u32 n, u32 b, u64 arena start
 unfoldable pub headerBytes : (seed n : ℕ) → List ℕ
-headerBytes seed n = magic ++ (bytesOf 8 seed ++ (bytesOf 4 n ++ (bytesOf 4 (bucketsOf n) ++ bytesOf 8 (arenaStart n))))
+headerBytes seed n = indexMagic ++ (bytesOf 8 seed ++ (bytesOf 4 n ++ (bytesOf 4 (bucketsOf n) ++ bytesOf 8 (arenaStart n))))
 
 -- b pilots of u32
 unfoldable pub pilotsBytes : List ℕ → List ℕ
@@ -27,7 +27,7 @@ slotBytes offset fingerprint = bytesOf 8 offset ++ (bytesOf 2 fingerprint ++ byt
 
 -- the slot of the key that is held as m + 1: that key's place in the arena, and its fingerprint
 unfoldable pub heldSlot : List ℕ → (seed held : ℕ) → List ℕ
-heldSlot arena seed held = slotBytes (entryPlace arena 0 (held - 1)) (fingerprintOf (hashOf seed (keyOf arena (held - 1))))
+heldSlot arena seed held = slotBytes (entryPlace arena 0 (held - 1)) (fingerprintOf (hashOf seed (arenaKey arena (held - 1))))
 
 -- n slots
 unfoldable pub slotsBytes : List ℕ → (seed : ℕ) → List ℕ → List ℕ

@@ -28,8 +28,8 @@ abbrev pub keysOf : List ℕ → ℕ
 keysOf arena = walked arena .keys
 
 -- 8 the arena breaks a key or version rule; 5 no key, or more than 65,536; 9 workspace under 2n u64 or 8n + 8 u32; 6 output shorter than the body
-abbrev pub lengthCauses : (size end n out wide narrow : ℕ) → List Cause
-lengthCauses size end n out wide narrow =
+abbrev pub walkedCauses : (size end n out wide narrow : ℕ) → List Cause
+walkedCauses size end n out wide narrow =
     cause (not (eqb end size)) 8
     ∷ cause (eqb n 0) 5
     ∷ cause (ltb 65536 n) 5
@@ -38,8 +38,8 @@ lengthCauses size end n out wide narrow =
     ∷ cause (ltb out (arenaStart n + size)) 6
     ∷ []
 
-unfoldable pub lengthRefusal : (size end n out wide narrow : ℕ) → ℕ
-lengthRefusal size end n out wide narrow = firstOf (lengthCauses size end n out wide narrow)
+unfoldable pub walkedRefusal : (size end n out wide narrow : ℕ) → ℕ
+walkedRefusal size end n out wide narrow = firstOf (walkedCauses size end n out wide narrow)
 
 -- slot s, of n, that holds `held`, is unfilled, holds no key, or one whose index is another slot
 unfoldable pub unmatched : (hs pilots : List ℕ) → (n s held : ℕ) → Bool
@@ -72,12 +72,12 @@ placingRefusal arena n = firstOf (placingCauses arena n)
 
 -- what stops finish on an arena, with output and workspace of these lengths: 8, 5, 9, 6 before the keys are placed
 abbrev pub lengthsRefusal : List ℕ → (out wide narrow : ℕ) → ℕ
-lengthsRefusal arena out wide narrow = lengthRefusal (length arena) (walked arena .end) (keysOf arena) out wide narrow
+lengthsRefusal arena out wide narrow = walkedRefusal (length arena) (walked arena .end) (keysOf arena) out wide narrow
 
 -- and 10, 11 after that: every cause, in the order 8, 5, 9, 6, 10, 11
 abbrev pub finishCauses : List ℕ → (out wide narrow : ℕ) → List Cause
 finishCauses arena out wide narrow =
-    lengthCauses (length arena) (walked arena .end) (keysOf arena) out wide narrow ++ placingCauses arena (keysOf arena)
+    walkedCauses (length arena) (walked arena .end) (keysOf arena) out wide narrow ++ placingCauses arena (keysOf arena)
 
 unfoldable pub finishRefusal : List ℕ → (out wide narrow : ℕ) → ℕ
 finishRefusal arena out wide narrow = firstOf (finishCauses arena out wide narrow)

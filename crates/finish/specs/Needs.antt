@@ -10,7 +10,7 @@ use Rattle.words.specs.Field.{splice}
 use Rattle.mixing.specs.Mixing.{hashOf, fingerprintOf}
 use Rattle.records.specs.Places.{entryPlace}
 use Rattle.construct.specs.Construct.{bucketsOf}
-use Rattle.construct.specs.Keys.{keyOf, attemptHashes, Entries}
+use Rattle.construct.specs.Keys.{arenaKey, attemptHashes, Entries}
 use Rattle.construct.specs.Layout.{placing}
 use Rattle.finish.specs.declared.Finished.{Finished}
 use Rattle.finish.specs.Body.{arenaStart, slotBytes, placedOf, bodyOf}
@@ -26,12 +26,12 @@ pub record Room (arena out h w : List ℕ) (n : ℕ) : Type 0 where
   pub room : arenaStart n + length arena ≤ length out
 
 -- attempt i is taken, and left in the workspace
-pub record Chosen (arena h w : List ℕ) (n i : ℕ) : Type 0 where
+pub record AttemptTaken (arena h w : List ℕ) (n i : ℕ) : Type 0 where
   pub taken : placedOf arena n ≡ some (i, placing n (bucketsOf n) w)
   pub hashes : take n h ≡ attemptHashes arena n i
 
 -- the keys' hashes, and the entries' places behind them
-pub record Listed (arena : List ℕ) (n : ℕ) (before after : List ℕ) : Type 0 where
+pub record PlacesListed (arena : List ℕ) (n : ℕ) (before after : List ℕ) : Type 0 where
   pub hashes : (m : ℕ) → m < n → getD after m 0 ≡ getD before m 0
   pub places : (m : ℕ) → m < n → getD after (n + m) 0 ≡ entryPlace arena 0 m
 
@@ -45,11 +45,11 @@ pub record Filled (n : ℕ) (slots : List ℕ) : Type 0 where
   pub keys : (s : ℕ) → s < length slots → getD slots s 0 ≤ n
 
 -- hashes and slots from which the body is written
-pub record Written (arena h w : List ℕ) (n seed : ℕ) : Type 0 where
-  pub hashes : (m : ℕ) → m < n → getD h m 0 ≡ hashOf seed (keyOf arena m)
+pub record SlotsKnown (arena h w : List ℕ) (n seed : ℕ) : Type 0 where
+  pub hashes : (m : ℕ) → m < n → getD h m 0 ≡ hashOf seed (arenaKey arena m)
   pub slots : Filled n (placing n (bucketsOf n) w .slots)
 
 -- the placing of the keys and what was written of it
-pub record Built (arena out : List ℕ) (n : ℕ) (r : Finished) (out′ : List ℕ) : Type 0 where
+pub record BodyPost (arena out : List ℕ) (n : ℕ) (r : Finished) (out′ : List ℕ) : Type 0 where
   pub answer : r ≡ answered (placingRefusal arena n) (bodyLength arena n)
   pub written : out′ ≡ cond (eqb (placingRefusal arena n) 0) (splice out 0 (bodyOf arena n)) out

@@ -14,7 +14,7 @@ ghost use Rattle.construct.specs.Construct.{bucketsOf};
 ghost use Rattle.construct.specs.Keys.{Entries};
 ghost use Rattle.construct.specs.Layout.{placing};
 ghost use Rattle.finish.specs.Body.{arenaStart, headerBytes, pilotsBytes, slotBytes, bodyBytes};
-ghost use Rattle.finish.specs.Needs.{Room, Listed, listedSlot, Filled, Written};
+ghost use Rattle.finish.specs.Needs.{Room, PlacesListed, listedSlot, Filled, SlotsKnown};
 
 // Where the arena of n keys starts in the body.
 pub fn arena_start(n: usize) -> usize
@@ -82,7 +82,7 @@ fn write_slots(out: &mut [u8], at: usize, h: &[u64], slots: &[u32])
 // Lists the places of the n entries behind the keys' hashes.
 fn list_places(arena: &[u8], h: &mut [u64], n: usize)
     requires { ⌜ Entries (now arena) n × (length (now h) ≡ n + n) ⌝ }
-    ensures { λ _. ⌜ Listed (now (arena .entry)) n (now (h .entry)) (now (h .exit)) ⌝ }
+    ensures { λ _. ⌜ PlacesListed (now (arena .entry)) n (now (h .entry)) (now (h .exit)) ⌝ }
 {
     let mut p = 0;
     let mut i = 0;
@@ -104,7 +104,7 @@ fn write_front(out: &mut [u8], n: usize, seed: u64, pilots: &[u32])
 
 // Writes the whole body.
 pub fn write_body(arena: &[u8], out: &mut [u8], h: &mut [u64], w: &[u32], n: usize, seed: u64)
-    requires { ⌜ Room (now arena) (now out) (now h) (now w) n × Written (now arena) (now h) (now w) n seed ⌝ }
+    requires { ⌜ Room (now arena) (now out) (now h) (now w) n × SlotsKnown (now arena) (now h) (now w) n seed ⌝ }
     ensures { λ _. ⌜ now (out .exit) ≡ splice (now (out .entry)) 0 (bodyBytes (now (arena .entry)) n seed (placing n (bucketsOf n) (now (w .entry)))) ⌝ }
 {
     let b = buckets(n);

@@ -9,8 +9,8 @@ use records::DataLength;
 use records::walk::walk;
 use words::part;
 ghost use mathlib.Core.Path.{_≡_};
-ghost use Rattle.finish.specs.Finish.{lengthRefusal, FinishPost};
-ghost use Rattle.finish.specs.Needs.{Room, Chosen, Built};
+ghost use Rattle.finish.specs.Finish.{walkedRefusal, FinishPost};
+ghost use Rattle.finish.specs.Needs.{Room, AttemptTaken, BodyPost};
 
 // What finish answers: the body's length, or the number of a refusal.
 pub enum Finished {
@@ -25,7 +25,7 @@ impl Finished {
 
 // 8, 5, 9, 6 or 0: an arena of `size` bytes whose walk passed n keys and came to `end`, and the lengths of what is lent.
 fn length_refusal(size: usize, end: usize, n: usize, out: usize, wide: usize, narrow: usize) -> u8
-    ensures { λ r. ⌜ r ≡ lengthRefusal size end n out wide narrow ⌝ }
+    ensures { λ r. ⌜ r ≡ walkedRefusal size end n out wide narrow ⌝ }
 {
     if end != size {
         return 8;
@@ -53,8 +53,8 @@ fn length_refusal(size: usize, end: usize, n: usize, out: usize, wide: usize, na
 
 // Checks the attempt that was taken, and writes the body.
 fn checked(arena: &[u8], out: &mut [u8], h: &mut [u64], w: &[u32], n: usize, i: u64) -> Finished
-    requires { ⌜ Room (now arena) (now out) (now h) (now w) n × Chosen (now arena) (now h) (now w) n i ⌝ }
-    ensures { λ r. ⌜ Built (now (arena .entry)) (now (out .entry)) n r (now (out .exit)) ⌝ }
+    requires { ⌜ Room (now arena) (now out) (now h) (now w) n × AttemptTaken (now arena) (now h) (now w) n i ⌝ }
+    ensures { λ r. ⌜ BodyPost (now (arena .entry)) (now (out .entry)) n r (now (out .exit)) ⌝ }
 {
     let b = buckets(n);
     let pilots = b + 1;
@@ -70,7 +70,7 @@ fn checked(arena: &[u8], out: &mut [u8], h: &mut [u64], w: &[u32], n: usize, i: 
 // Places the n keys, and writes the body where that succeeds.
 fn build(arena: &[u8], out: &mut [u8], h: &mut [u64], w: &mut [u32], n: usize) -> Finished
     requires { ⌜ Room (now arena) (now out) (now h) (now w) n ⌝ }
-    ensures { λ r. ⌜ Built (now (arena .entry)) (now (out .entry)) n r (now (out .exit)) ⌝ }
+    ensures { λ r. ⌜ BodyPost (now (arena .entry)) (now (out .entry)) n r (now (out .exit)) ⌝ }
 {
     let c = construct::construct(arena, h, w, n);
     match c {

@@ -7,8 +7,9 @@ use native.Mathlib.Omega.{arith}
 use lib.Count.{ones}
 use lib.Dec.{leb, ltb, eqb}
 use borrow.Author.Tests.{eq-eqb, eqb-true, leb-true, ltb-true, le-leb, lt-ltb}
-use Rattle.laws.specs.Cases.{by-test}
-use Rattle.laws.specs.Power.{PowerOfTwo, power-pos, power-ones, ones-power}
+use Rattle.laws.proofs.Cases.{by-test}
+use Rattle.laws.specs.Power.{PowerOfTwo}
+use Rattle.laws.proofs.PowerLaws.{power-pos, power-ones, ones-power}
 use Rattle.fuse.specs.declared.Sizes.{Sizes}
 use Rattle.fuse.specs.Positions.{cellsIn, Usable}
 use Rattle.fuse.specs.Layout.{segmentTest, fitting, Accepted}

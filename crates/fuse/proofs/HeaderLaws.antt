@@ -9,10 +9,10 @@ use Rattle.words.proofs.Laws.{splice-splice}
 use Rattle.words.proofs.WrittenLaws.{le-there}
 use Rattle.fuse.specs.declared.Sizes.{Sizes}
 use Rattle.fuse.specs.Positions.{cellsIn}
-use Rattle.fuse.specs.Layout.{magic, positiveBytes, headerOf, sizesIn}
+use Rattle.fuse.specs.Layout.{filterMagic, positiveBytes, fuseHeader, sizesIn}
 
-pub header-length : (s : Sizes) → length (headerOf s) ≡ 48
-unfolding headerOf magic bytesOf
+pub header-length : (s : Sizes) → length (fuseHeader s) ≡ 48
+unfolding fuseHeader filterMagic bytesOf
 header-length s = refl
 
 pub positive-length : length positiveBytes ≡ 48
@@ -29,8 +29,8 @@ put-behind xs p q at e l =
 pub header-written : (s : Sizes) (n : ℕ) (xs : List ℕ) → n ≡ cellsIn (s .segment) (s .count) → 48 ≤ length xs →
     splice (splice (splice (splice (splice (splice (splice (splice xs 0 (bytesOf 8 0x324c_464e_4142_494b)) 8 (bytesOf 8 0x0000_0030_0801_0201))
     16 (bytesOf 8 (s .keys))) 24 (bytesOf 8 (s .seed))) 32 (bytesOf 4 (s .segment))) 36 (bytesOf 4 (s .count))) 40 (bytesOf 4 n)) 44 (bytesOf 4 n)
-    ≡ splice xs 0 (headerOf s)
-unfolding bytesOf magic headerOf
+    ≡ splice xs 0 (fuseHeader s)
+unfolding bytesOf filterMagic fuseHeader
 header-written s n xs e l =
     let put : ℕ → List ℕ → List ℕ → List ℕ = λ at q t. splice t at q in
     let p₁ : List ℕ = bytesOf 8 0x324c_464e_4142_494b in
@@ -54,10 +54,10 @@ header-written s n xs e l =
 -- ---- read again
 
 -- the sizes in a header are those that it was made of
-pub sizes-back : (s : Sizes) (cells : List ℕ) → s .keys < 2 ^ 64 → s .seed < 2 ^ 64 → s .segment < 2 ^ 32 → s .count < 2 ^ 32 → sizesIn (headerOf s ++ cells) ≡ s
-unfolding sizesIn headerOf magic bytesOf
+pub sizes-back : (s : Sizes) (cells : List ℕ) → s .keys < 2 ^ 64 → s .seed < 2 ^ 64 → s .segment < 2 ^ 32 → s .count < 2 ^ 32 → sizesIn (fuseHeader s ++ cells) ≡ s
+unfolding sizesIn fuseHeader filterMagic bytesOf
 sizes-back s cells a b c d =
-    let xs : List ℕ = headerOf s ++ cells in
+    let xs : List ℕ = fuseHeader s ++ cells in
     λ i. record {
       keys = le-there 8 (s .keys) 16 xs (drop 24 xs) a refl i;
       seed = le-there 8 (s .seed) 24 xs (drop 32 xs) b refl i;

@@ -8,22 +8,22 @@ use lib.ListN.{length, take, replicate}
 use Rattle.words.specs.Field.{le, bytesOf}
 use Rattle.words.specs.Part.{sameAs}
 use Rattle.fuse.specs.declared.Sizes.{Sizes}
-use Rattle.fuse.specs.Positions.{cellsIn, Fits}
+use Rattle.fuse.specs.Positions.{cellsIn, FitsCells}
 
 -- KIBANFL2
-unfoldable pub magic : List ℕ
-magic = 75 ∷ 73 ∷ 66 ∷ 65 ∷ 78 ∷ 70 ∷ 76 ∷ 50 ∷ []
+unfoldable pub filterMagic : List ℕ
+filterMagic = 75 ∷ 73 ∷ 66 ∷ 65 ∷ 78 ∷ 70 ∷ 76 ∷ 50 ∷ []
 
 -- Positive: the magic, 1, three zeros, u32 48, 32 zeros
 unfoldable pub positiveBytes : List ℕ
-unfolding magic bytesOf
-positiveBytes = magic ++ (1 ∷ 0 ∷ 0 ∷ 0 ∷ []) ++ bytesOf 4 48 ++ replicate 32 0
+unfolding filterMagic bytesOf
+positiveBytes = filterMagic ++ (1 ∷ 0 ∷ 0 ∷ 0 ∷ []) ++ bytesOf 4 48 ++ replicate 32 0
 
 -- Fuse: the magic, 1, 2, 1, 8, u32 48, u64 keys, u64 seed, u32 segment, u32 count, u32 cells, u32 cells again
-unfoldable pub headerOf : Sizes → List ℕ
-unfolding magic bytesOf
-headerOf s =
-    magic ++ (1 ∷ 2 ∷ 1 ∷ 8 ∷ []) ++ bytesOf 4 48 ++ bytesOf 8 (s .keys) ++ bytesOf 8 (s .seed) ++ bytesOf 4 (s .segment)
+unfoldable pub fuseHeader : Sizes → List ℕ
+unfolding filterMagic bytesOf
+fuseHeader s =
+    filterMagic ++ (1 ∷ 2 ∷ 1 ∷ 8 ∷ []) ++ bytesOf 4 48 ++ bytesOf 8 (s .keys) ++ bytesOf 8 (s .seed) ++ bytesOf 4 (s .segment)
     ++ bytesOf 4 (s .count) ++ bytesOf 4 (cellsIn (s .segment) (s .count)) ++ bytesOf 4 (cellsIn (s .segment) (s .count))
 
 -- a segment is accepted when its count of ones is 1 and it is at most 262,144
@@ -40,7 +40,7 @@ fitting s cells =
 pub record Accepted (s : Sizes) (cells : ℕ) : Type 0 where
   pub some-key : 1 ≤ s .keys
   pub few-keys : s .keys < 2 ^ 32
-  pub fits : Fits (s .segment) (s .count) cells
+  pub fits : FitsCells (s .segment) (s .count) cells
 
 -- the sizes that stand in a header
 unfoldable pub sizesIn : List ℕ → Sizes
@@ -48,4 +48,4 @@ sizesIn bytes = record { keys = le 8 bytes 16; seed = le 8 bytes 24; segment = l
 
 -- the bytes are a Fuse filter of these sizes: they fit the cells, and no other header stands in front
 unfoldable pub fuseLaid : List ℕ → Sizes → Bool
-fuseLaid bytes s = fitting s (length bytes - 48) && sameAs (take 48 bytes) (headerOf s)
+fuseLaid bytes s = fitting s (length bytes - 48) && sameAs (take 48 bytes) (fuseHeader s)

@@ -17,7 +17,7 @@ pub record Usable (segment count : ℕ) : Type 0 where
   pub small : cellsIn segment count < 2 ^ 32
 
 -- a segment and a count that fit so many cells
-pub record Fits (segment count cells : ℕ) : Type 0 where
+pub record FitsCells (segment count cells : ℕ) : Type 0 where
   pub usable : Usable segment count
   pub whole : cells ≡ cellsIn segment count
 

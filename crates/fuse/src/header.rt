@@ -5,7 +5,7 @@ ghost use lib.ListN.{length};
 ghost use Rattle.words.specs.Field.{splice};
 ghost use Rattle.words.specs.Part.{sameAs};
 ghost use Rattle.fuse.specs.Positions.{cellsIn};
-ghost use Rattle.fuse.specs.Layout.{positiveBytes, headerOf, sizesIn, fitting, fuseLaid};
+ghost use Rattle.fuse.specs.Layout.{positiveBytes, fuseHeader, sizesIn, fitting, fuseLaid};
 use super::Sizes;
 use words::field;
 use words::part;
@@ -114,7 +114,7 @@ pub fn fits(s: Sizes, cells: usize) -> bool
 // Puts the header of a Fuse filter in front.
 pub fn put_header(out: &mut [u8], s: Sizes)
     requires { ⌜ (48 ≤ length (now out)) × (cellsIn (s .segment) (s .count) < 2 ^ 32) ⌝ }
-    ensures { λ _. ⌜ now (out .exit) ≡ splice (now (out .entry)) 0 (headerOf s) ⌝ }
+    ensures { λ _. ⌜ now (out .exit) ≡ splice (now (out .entry)) 0 (fuseHeader s) ⌝ }
 {
     let cells = Sizes::cells(s) as u32;
     field::put_u64(out, 0, MAGIC);
@@ -130,7 +130,7 @@ pub fn put_header(out: &mut [u8], s: Sizes)
 // The header by itself.
 fn header(s: Sizes) -> [u8; 48]
     requires { ⌜ cellsIn (s .segment) (s .count) < 2 ^ 32 ⌝ }
-    ensures { λ r. ⌜ r ≡ headerOf s ⌝ }
+    ensures { λ r. ⌜ r ≡ fuseHeader s ⌝ }
 {
     let mut h = [0u8; 48];
     put_header(&mut h, s);

@@ -2,7 +2,7 @@
 ghost use mathlib.Core.Path.{_≡_};
 ghost use Prim.Native.Nat.{_<_, _^_};
 ghost use lib.ListN.{length};
-ghost use Rattle.fuse.specs.Positions.{Usable, Fits, cellsIn, cellOf, positionsOf};
+ghost use Rattle.fuse.specs.Positions.{Usable, FitsCells, cellsIn, cellOf, positionsOf};
 ghost use Rattle.fuse.specs.Asking.{graphHash, xorAt, containsOf};
 
 pub mod header;
@@ -83,7 +83,7 @@ pub fn graph_hash(seed: u64, hash: u64) -> u64
 
 // Whether a hash is present: its four cells xor to the low byte of its h.
 pub fn contains(cells: &[u8], s: Sizes, hash: u64) -> bool
-    requires { ⌜ Fits (s .segment) (s .count) (length (now cells)) ⌝ }
+    requires { ⌜ FitsCells (s .segment) (s .count) (length (now cells)) ⌝ }
     ensures { λ r. ⌜ r ≡ containsOf (now (cells .entry)) s hash ⌝ }
 {
     let h = graph_hash(s.seed, hash);

@@ -8,7 +8,8 @@ use mathlib.Core.List.{List, [], _∷_}
 use borrow.Author.Tests.{lt-ltb, le-ltb, ne-eqb}
 use lib.ListN.{length, getD, set}
 use lib.Seq.{paste, paste-suc, length-paste}
-use Rattle.laws.specs.Refusals.{Cause, orElse, First, here, None, none-here, none-more, first-given, none-given}
+use Rattle.laws.specs.Refusals.{Cause, orElse, First, here, None, none-here, none-more}
+use Rattle.laws.proofs.RefusalLaws.{first-given, none-given}
 use Rattle.words.specs.Field.{splice}
 use Rattle.words.proofs.Laws.{splice-paste}
 use Rattle.kiban_c.specs.Lent.{answerShort, numberBy, leftBy}

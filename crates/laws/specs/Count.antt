@@ -9,13 +9,13 @@ abbrev pub one : Bool → ℕ
 one b = cond b 1 0
 
 -- how often v stands in the list
-unfoldable pub count : ℕ → List ℕ → ℕ
-count v [] = 0
-count v (x ∷ xs) = one (eqb v x) + count v xs
+unfoldable pub occurs : ℕ → List ℕ → ℕ
+occurs v [] = 0
+occurs v (x ∷ xs) = one (eqb v x) + occurs v xs
 
 -- v stands in the list
 abbrev pub among : ℕ → List ℕ → Bool
-among v xs = ltb 0 (count v xs)
+among v xs = ltb 0 (occurs v xs)
 
 -- x in front if the test passes
 abbrev pub keep : Bool → ℕ → List ℕ → List ℕ

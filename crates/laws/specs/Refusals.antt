@@ -1,9 +1,8 @@
 -- Refusals: the tests of a call stand in a row, in the paper's order, and the first that holds gives its number. 0 is no refusal.
 use Prim.Native.Nat.{ℕ, zero, suc, _<_}
-use mathlib.Core.Path.{_≡_, refl, sym, ap, _∙_}
+use mathlib.Core.Path.{_≡_}
 use mathlib.Core.Bool.{Bool, true, false, cond}
 use mathlib.Core.List.{List, [], _∷_}
-use native.Mathlib.Omega.{arith}
 
 -- a test, and the number that a call refuses with where it holds
 pub record Cause : Type 0 where
@@ -38,35 +37,7 @@ pub data Numbered : List Cause → Type 0 where
   numbered-none : Numbered []
   numbered-more : {c : Cause} {cs : List Cause} → 0 < c .number → Numbered cs → Numbered (c ∷ cs)
 
--- a number is given where its cause is the first that holds
-pub first-given : {n : ℕ} {cs : List Cause} → First n cs → firstOf cs ≡ n
-first-given {n} (here {c} {cs} h e) = ap (λ (b : Bool). cond b (c .number) (firstOf cs)) h ∙ e
-first-given {n} (later {c} {cs} h r) = ap (λ (b : Bool). cond b (c .number) (firstOf cs)) h ∙ first-given r
-
--- and only there
-pub first-only : (n : ℕ) (cs : List Cause) → 0 < n → firstOf cs ≡ n → First n cs
-first-only n [] p e = absurd (omega arith)
-first-only n (c ∷ cs) p e = go (c .holds) refl (first-only n cs p)
-  where
-    go : (b : Bool) → c .holds ≡ b → (firstOf cs ≡ n → First n cs) → First n (c ∷ cs)
-    go true h rest = here h (sym (ap (λ (x : Bool). cond x (c .number) (firstOf cs)) h) ∙ e)
-    go false h rest = later h (rest (sym (ap (λ (x : Bool). cond x (c .number) (firstOf cs)) h) ∙ e))
-
--- no number is given where no test holds
-pub none-given : {cs : List Cause} → None cs → firstOf cs ≡ 0
-none-given none-here = refl
-none-given (none-more {c} {cs} h r) = ap (λ (b : Bool). cond b (c .number) (firstOf cs)) h ∙ none-given r
-
--- and only there
-pub none-only : {cs : List Cause} → Numbered cs → firstOf cs ≡ 0 → None cs
-none-only numbered-none e = none-here
-none-only (numbered-more {c} {cs} p r) e = go (c .holds) refl (none-only r)
-  where
-    go : (b : Bool) → c .holds ≡ b → (firstOf cs ≡ 0 → None cs) → None (c ∷ cs)
-    go true h rest = absurd (let z : c .number ≡ 0 = sym (ap (λ (x : Bool). cond x (c .number) (firstOf cs)) h) ∙ e in omega arith)
-    go false h rest = none-more h (rest (sym (ap (λ (x : Bool). cond x (c .number) (firstOf cs)) h) ∙ e))
-
--- every number of such a row is above 0
-pub first-positive : {n : ℕ} {cs : List Cause} → Numbered cs → First n cs → 0 < n
-first-positive (numbered-more p ns) (here h e) = omega arith
-first-positive (numbered-more p ns) (later h f) = first-positive ns f
+-- n is the first of two refusals that is one
+pub data FirstOfTwo (n a b : ℕ) : Type 0 where
+  by-first : a ≡ n → FirstOfTwo n a b
+  by-second : a ≡ 0 → b ≡ n → FirstOfTwo n a b

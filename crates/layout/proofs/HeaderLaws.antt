@@ -8,12 +8,13 @@ use mathlib.Core.Bool.{Bool, true, false, not, cond}
 use lib.ListN.{length, take}
 use lib.Dec.{ltb, leb, eqb}
 use borrow.Author.Tests.{ltb-false, leb-false, eqb-true, eqb-false, not-false, lt-ltb, le-ltb}
-use Rattle.laws.specs.RefusalLaws.{orElse-stop, orElse-zero}
+use Rattle.laws.proofs.RefusalLaws.{orElse-stop, orElse-zero}
 use Rattle.words.specs.Field.{le}
 use Rattle.words.specs.Part.{sameAs}
 use Rattle.mixing.specs.Mixing.{bucketOf, positionOf, positionOf-lt}
-use Rattle.mixing.specs.Slots.{bucketsOf, direct, slotBy, some-buckets}
-use Rattle.layout.specs.Layout.{magic, keysIn, bucketsIn, arenaIn, magicRefusal, dimensionRefusal, headerRefusal, pilotOf, slotAt, directPast, slotOf, slotPlace}
+use Rattle.mixing.specs.Slots.{bucketsOf, direct, slotBy}
+use Rattle.mixing.proofs.SlotLaws.{some-buckets}
+use Rattle.layout.specs.Layout.{indexMagic, keysIn, bucketsIn, arenaIn, magicRefusal, dimensionRefusal, headerRefusal, pilotOf, slotAt, directPast, slotOf, slotPlace}
 
 -- a test that refuses, and did not
 pub passes : (t : Bool) (r x : ℕ) → cond t (suc r) x ≡ 0 → (t ≡ false) × (x ≡ 0)
@@ -26,7 +27,7 @@ pub magic-short : (body : List ℕ) → length body < 32 → magicRefusal body �
 unfolding magicRefusal
 magic-short body h = rw (lt-ltb (length body) 32 h)
 
-pub magic-is : (body : List ℕ) (t : Bool) → 32 ≤ length body → sameAs (take 8 body) magic ≡ t → magicRefusal body ≡ cond (not t) 20 0
+pub magic-is : (body : List ℕ) (t : Bool) → 32 ≤ length body → sameAs (take 8 body) indexMagic ≡ t → magicRefusal body ≡ cond (not t) 20 0
 unfolding magicRefusal
 magic-is body t h e = rw (le-ltb (length body) 32 h, e)
 

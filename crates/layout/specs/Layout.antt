@@ -11,8 +11,8 @@ use Rattle.mixing.specs.Mixing.{bucketOf}
 use Rattle.mixing.specs.Slots.{bucketsOf, slotBy}
 
 -- KIBANPH2
-abbrev pub magic : List ℕ
-magic = 75 ∷ 73 ∷ 66 ∷ 65 ∷ 78 ∷ 80 ∷ 72 ∷ 50 ∷ []
+abbrev pub indexMagic : List ℕ
+indexMagic = 75 ∷ 73 ∷ 66 ∷ 65 ∷ 78 ∷ 80 ∷ 72 ∷ 50 ∷ []
 
 -- of the header: u64 seed, u32 n, u32 b, u64 arena start
 abbrev pub seedIn : List ℕ → ℕ
@@ -29,7 +29,7 @@ arenaIn body = le 8 body 24
 
 -- 20 body under 32 bytes or wrong magic
 abbrev pub magicCauses : List ℕ → List Cause
-magicCauses body = cause (ltb (length body) 32) 20 ∷ cause (not (sameAs (take 8 body) magic)) 20 ∷ []
+magicCauses body = cause (ltb (length body) 32) 20 ∷ cause (not (sameAs (take 8 body) indexMagic)) 20 ∷ []
 
 unfoldable pub magicRefusal : List ℕ → ℕ
 magicRefusal body = firstOf (magicCauses body)

@@ -19,10 +19,10 @@ use Rattle.point.specs.Table.{tableOf}
 use Rattle.point.proofs.ValidateLaws.{passed}
 use Rattle.point.proofs.CauseLaws.{validate-cause, cause-validate, stops-between}
 use Rattle.lines.specs.Shown.{Rule}
-use Rattle.lines.specs.Listing.{newline, headerOf, tableText, refusedText, limitIn, dataLengthIn, bodyIn, sizeRefusal, listingRefusal, textBy, textOf}
+use Rattle.lines.specs.Listing.{newline, listingHeader, tableText, refusedText, limitIn, dataLengthIn, bodyIn, sizeRefusal, listingRefusal, textBy, textOf}
 use Rattle.lines.specs.Causes.{ListingStops}
 use Rattle.lines.specs.Causes.ListingStops.{too-short, too-long, body-stops}
-use Rattle.lines.proofs.InputLaws.{Taken, size-short, size-long, taken, text-refused}
+use Rattle.lines.proofs.InputLaws.{Listable, size-short, size-long, taken, text-refused}
 
 -- THEOREM: the listing's numbers are 16 and 20 to 30
 pub stops-numbers : {input : List ℕ} {n : ℕ} → ListingStops input n → (n ≡ 16) ⊎ ((20 ≤ n) × (n ≤ 30))
@@ -67,7 +67,7 @@ refused-number m n e =
 
 -- a table's text begins with `l`, `refused R` with `r`
 table-unrefused : (rule : Rule) (limit : ℕ) (t : List Entry) (n : ℕ) → tableText rule limit t ≡ refusedText n → ⊥
-unfolding tableText headerOf refusedText named
+unfolding tableText listingHeader refusedText named
 table-unrefused rule limit t n e = let z : _≡_ {A = ℕ} 108 114 = ap (λ (l : List ℕ). getD l 0 0) e in omega arith
 
 -- ---- the text
@@ -96,18 +96,18 @@ module _ (rule : Rule) where
       ap (textBy rule input) (validated-number input long short ∙ ap refusalNumber ok)
 
   -- THEOREM: and only of such an input
-  pub text-listed-only : (input : List ℕ) → textOf rule input ≡ tableText rule (limitIn input) (tableOf (bodyIn input)) → Taken input
+  pub text-listed-only : (input : List ℕ) → textOf rule input ≡ tableText rule (limitIn input) (tableOf (bodyIn input)) → Listable input
   unfolding textOf
   text-listed-only input e = go (listingRefusal input) refl e
     where
-      go : (r : ℕ) → listingRefusal input ≡ r → textBy rule input r ≡ tableText rule (limitIn input) (tableOf (bodyIn input)) → Taken input
+      go : (r : ℕ) → listingRefusal input ≡ r → textBy rule input r ≡ tableText rule (limitIn input) (tableOf (bodyIn input)) → Listable input
       go zero q f = taken input q
       go (suc r) q f = absurd (table-unrefused rule (limitIn input) (tableOf (bodyIn input)) (suc r) (sym f))
 
 -- THEOREM: an input that no cause refuses is such an input
-pub unstopped-taken : (input : List ℕ) → ((n : ℕ) → ListingStops input n → ⊥) → Taken input
+pub unstopped-taken : (input : List ℕ) → ((n : ℕ) → ListingStops input n → ⊥) → Listable input
 unstopped-taken input none = go (listingRefusal input) refl
   where
-    go : (r : ℕ) → listingRefusal input ≡ r → Taken input
+    go : (r : ℕ) → listingRefusal input ≡ r → Listable input
     go zero q = taken input q
     go (suc r) q = absurd (none (suc r) (refusal-stops input (suc r) (omega arith) q))

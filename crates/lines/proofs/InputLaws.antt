@@ -9,8 +9,9 @@ use lib.Dec.{ltb}
 use lib.ListN.{length, take, drop, length-drop}
 use borrow.Rule.Slice.PartAt.{part-to-end}
 use borrow.Author.Tests.{ltb-false, lt-ltb, le-ltb}
-use Rattle.laws.specs.RefusalLaws.{orElse-zero}
-use Rattle.words.proofs.Laws.{AllBytes, bytes-drop, le-lt}
+use Rattle.laws.proofs.RefusalLaws.{orElse-zero}
+use Rattle.words.proofs.Laws.{bytes-drop, le-lt}
+use Rattle.words.specs.Field.{AllBytes}
 use Rattle.text.specs.Written.{Ends}
 use Rattle.text.proofs.TextLaws.{decimal-short}
 use Rattle.layout.specs.Layout.{keysIn, arenaIn}
@@ -50,7 +51,7 @@ module _ (input : List ℕ) where
       (ap refusalNumber (ev ∙ ap (λ (b : List ℕ). validateOf b size) (part-to-end input 16) ∙ ap (validateOf (drop 16 input)) es))
 
 -- what an input that is not refused holds
-pub record Taken (input : List ℕ) : Type 0 where
+pub record Listable (input : List ℕ) : Type 0 where
   pub long : 16 ≤ length input
   pub short : length input ≤ 65536
   pub ok : validateOf (bodyIn input) (dataLengthIn input) ≡ Accepted
@@ -59,13 +60,13 @@ verdict-zero : (n : ℕ) → refusalNumber (verdict n) ≡ 0 → verdict n ≡ A
 verdict-zero zero e = refl
 verdict-zero (suc n) e = absurd (suc-ne-zero _ e)
 
-pub taken : (input : List ℕ) → listingRefusal input ≡ 0 → Taken input
+pub taken : (input : List ℕ) → listingRefusal input ≡ 0 → Listable input
 unfolding listingRefusal sizeRefusal validateOf
 taken input e =
     let s = orElse-zero (sizeRefusal input) (refusalNumber (validateOf (bodyIn input) (dataLengthIn input))) e in
     go (ltb (length input) 16) (ltb 65536 (length input)) refl refl (s .0) (verdict-zero (validationRefusal (bodyIn input) (dataLengthIn input)) (s .1))
   where
-    go : (a b : Bool) → ltb (length input) 16 ≡ a → ltb 65536 (length input) ≡ b → cond {A = ℕ} a 16 (cond b 16 0) ≡ 0 → verdict (validationRefusal (bodyIn input) (dataLengthIn input)) ≡ Accepted → Taken input
+    go : (a b : Bool) → ltb (length input) 16 ≡ a → ltb 65536 (length input) ≡ b → cond {A = ℕ} a 16 (cond b 16 0) ≡ 0 → verdict (validationRefusal (bodyIn input) (dataLengthIn input)) ≡ Accepted → Listable input
     go true b ea eb z v = absurd (suc-ne-zero _ z)
     go false true ea eb z v = absurd (suc-ne-zero _ z)
     go false false ea eb z v = record { long = ltb-false _ _ ea; short = ltb-false _ _ eb; ok = v }
@@ -102,13 +103,13 @@ pub accepted-rises : (body : List ℕ) (size : ℕ) → validateOf body size ≡
 unfolding tableOf
 accepted-rises body size ok = passed-rise (arenaIn body) (arenaIn body) (keysIn body) (keys-passed body size ok)
 
-pub taken-whole : {input : List ℕ} → Taken input → Whole (take (length input - 16) (drop 16 input))
+pub taken-whole : {input : List ℕ} → Listable input → Whole (take (length input - 16) (drop 16 input))
 taken-whole {input} t = rw (part-to-end input 16) (accepted-whole (bodyIn input) (dataLengthIn input) (t .ok))
 
 -- ---- room
 
 -- a listing of a table is not longer than twice its input
-listed-length : (rule : Rule) (input : List ℕ) (limit : ℕ) → Taken input → AllBytes input → limit ≡ limitIn input → length (tableText rule limit (tableOf (bodyIn input))) ≤ 2 * length input
+listed-length : (rule : Rule) (input : List ℕ) (limit : ℕ) → Listable input → AllBytes input → limit ≡ limitIn input → length (tableText rule limit (tableOf (bodyIn input))) ≤ 2 * length input
 listed-length rule input limit t all el =
     let body = bodyIn input in
     let bytes : AllBytes body = bytes-drop 16 input all in
@@ -119,7 +120,7 @@ listed-length rule input limit t all el =
     let s : length (tableBytes (tableOf body)) ≡ length input - 16 - arenaIn body = sym (ap length (u .bytes)) ∙ simp length-drop in
     omega (arith, length-drop 16 input, table-length (Of (dataLengthIn input)) rule limit (tableOf body) (u .rules .entries) l n)
 
-pub taken-ends : {input : List ℕ} → Taken input → AllBytes input → (limit : ℕ) → limit ≡ limitIn input → Ends 0 (tableText newestTombstone limit (tableOf (take (length input - 16) (drop 16 input))))
+pub taken-ends : {input : List ℕ} → Listable input → AllBytes input → (limit : ℕ) → limit ≡ limitIn input → Ends 0 (tableText newestTombstone limit (tableOf (take (length input - 16) (drop 16 input))))
 taken-ends {input} t all limit el =
     rw (part-to-end input 16) (record { inside = omega (arith, listed-length newestTombstone input limit t all el, t .short) })
 

@@ -7,8 +7,9 @@ use mathlib.Core.List.{List, [], _∷_, _++_}
 use mathlib.Core.Option.{Option, none}
 use lib.ListN.{length, length-append}
 use lib.Seq.{sets}
-use Rattle.words.proofs.Laws.{AllBytes, le-lt}
-use Rattle.text.specs.Written.{Ends, Written}
+use Rattle.words.proofs.Laws.{le-lt}
+use Rattle.words.specs.Field.{AllBytes}
+use Rattle.text.specs.Written.{Ends, WrittenAt}
 use Rattle.text.proofs.WrittenLaws.{sets-append}
 use Rattle.layout.specs.Layout.{keysIn, arenaIn}
 use Rattle.records.specs.declared.Record.{Record}
@@ -136,7 +137,7 @@ module _ {limit : ℕ} {before : List ℕ} {at : ℕ} {body out : List ℕ} {end
 pub line-ends : {at : ℕ} (key : List ℕ) (o : Option Record) (r : Record) → foundOf o ≡ Found r → Ends at (lineFor key o) → Ends at (lineOf key r)
 line-ends key o r e h = rw (found-some o r e) at h
 
-pub lined-some : {before after : List ℕ} {at end : ℕ} (key : List ℕ) (o : Option Record) (r : Record) → foundOf o ≡ Found r → Written before at (lineOf key r) after end
+pub lined-some : {before after : List ℕ} {at end : ℕ} (key : List ℕ) (o : Option Record) (r : Record) → foundOf o ≡ Found r → WrittenAt before at (lineOf key r) after end
     → Lined (lineFor key o) (shownOne o) before at after (record { end = end; shown = 1 })
 lined-some key o r e w = rw (found-some o r e) (record { written = w; counted = refl })
 

@@ -20,7 +20,7 @@ use Rattle.records.specs.Tables.{RecordRules, EntryRules}
 use Rattle.records.proofs.ModelLaws.{greatest-has}
 use Rattle.records.proofs.WriteLaws.{entry-size}
 use Rattle.lines.specs.Shown.{Rule, shown, shownCount}
-use Rattle.lines.specs.Listing.{limitWord, keysWord, shownWord, kindWord, newline, recordText, lineOf, lineFor, linesOf, headerOf, tableText}
+use Rattle.lines.specs.Listing.{limitWord, keysWord, shownWord, kindWord, newline, recordText, lineOf, lineFor, linesOf, listingHeader, tableText}
 use Rattle.lines.proofs.ShownLaws.{shown-few}
 use Rattle.lines.proofs.TextLaws.{named-length}
 
@@ -81,8 +81,8 @@ lines-length test rule limit (e ∷ es) (each-more p ps) =
 
 -- ---- the header and the whole
 
-header-length : (limit keys count : ℕ) → limit < 2 ^ 64 → keys < 2 ^ 64 → count < 2 ^ 64 → length (headerOf limit keys count) ≤ 80
-unfolding headerOf
+header-length : (limit keys count : ℕ) → limit < 2 ^ 64 → keys < 2 ^ 64 → count < 2 ^ 64 → length (listingHeader limit keys count) ≤ 80
+unfolding listingHeader
 header-length limit keys count l k s =
     omega
     (arith, length-append (named limitWord limit) (named keysWord keys ++ (named shownWord count ++ newline)), length-append (named keysWord keys) (named shownWord count ++ newline), length-append (named shownWord count) newline, named-length limitWord limit, named-length keysWord keys, named-length shownWord count, decimal-short limit l, decimal-short keys k, decimal-short count s)
@@ -92,4 +92,4 @@ unfolding tableText
 table-length test rule limit t u l n =
     let c = shown-few rule limit t in
     omega
-    (arith, length-append (headerOf limit (length t) (shownCount rule limit t)) (linesOf rule limit t), header-length limit (length t) (shownCount rule limit t) l n (omega arith), lines-length test rule limit t u)
+    (arith, length-append (listingHeader limit (length t) (shownCount rule limit t)) (linesOf rule limit t), header-length limit (length t) (shownCount rule limit t) l n (omega arith), lines-length test rule limit t u)

@@ -10,7 +10,7 @@ use lib.Dec.{leb}
 use borrow.Author.Tests.{le-leb, lt-leb, leb-true}
 use Rattle.words.proofs.Laws.{splice-sets}
 use Rattle.text.specs.Text.{decimal, field, named}
-use Rattle.text.specs.Written.{Ends, Written}
+use Rattle.text.specs.Written.{Ends, WrittenAt}
 use Rattle.text.proofs.TextLaws.{decimal-short}
 use Rattle.layout.specs.Layout.{keysIn, arenaIn}
 use Rattle.records.specs.Model.{Entry}
@@ -18,7 +18,7 @@ use Rattle.records.proofs.PassedLaws.{entries-count}
 use Rattle.point.specs.Table.{tableOf}
 use Rattle.lines.specs.declared.Listed.the-variants.{Text, Refused}
 use Rattle.lines.specs.Shown.{newestTombstone, shownCount}
-use Rattle.lines.specs.Listing.{refusedWord, newline, linesOf, headerOf, tableText, refusedText, listedOf, bufferOf, Lists}
+use Rattle.lines.specs.Listing.{refusedWord, newline, linesOf, listingHeader, tableText, refusedText, listedOf, bufferOf, Lists}
 
 -- ---- the pieces
 
@@ -27,14 +27,14 @@ unfolding tableOf
 table-keys body = entries-count body (arenaIn body) (keysIn body)
 
 pub table-text : (body : List ℕ) (limit keys count : ℕ) → keys ≡ keysIn body → count ≡ shownCount newestTombstone limit (tableOf body)
-    → tableText newestTombstone limit (tableOf body) ≡ headerOf limit keys count ++ linesOf newestTombstone limit (tableOf body)
+    → tableText newestTombstone limit (tableOf body) ≡ listingHeader limit keys count ++ linesOf newestTombstone limit (tableOf body)
 unfolding tableText
 table-text body limit keys count ek ec = rw (ek, ec, table-keys body)
 
 pub ends-lines : {at : ℕ} (limit : ℕ) (table : List Entry) → Ends at (tableText newestTombstone limit table) → Ends at (linesOf newestTombstone limit table)
 unfolding tableText
 ends-lines limit table h =
-    let e = length-append (headerOf limit (length table) (shownCount newestTombstone limit table)) (linesOf newestTombstone limit table) in
+    let e = length-append (listingHeader limit (length table) (shownCount newestTombstone limit table)) (linesOf newestTombstone limit table) in
     record { inside = omega (arith, h .inside) }
 
 pub named-length : (word : List ℕ) (n : ℕ) → length (named word n) ≡ length word + 1 + length (decimal n)
@@ -50,14 +50,14 @@ refused-ends r h = record { inside = omega (arith, refused-length r, decimal-sho
 
 -- ---- the buffer
 
-module _ {text before none rest : List ℕ} {size : ℕ} (measured : Written none 0 text rest size) where
+module _ {text before none rest : List ℕ} {size : ℕ} (measured : WrittenAt none 0 text rest size) where
   pub lists-short : length before < size → Lists text before (Refused 6) before
   unfolding listedOf bufferOf
   lists-short h =
       let g = lt-leb (length text) (length before) (omega (arith, measured .place)) in
       record { answer = rw g; buffer = rw g }
 
-  pub lists-fit : {after : List ℕ} {end : ℕ} → size ≤ length before → Written before 0 text after end → Lists text before (Text size) after
+  pub lists-fit : {after : List ℕ} {end : ℕ} → size ≤ length before → WrittenAt before 0 text after end → Lists text before (Text size) after
   unfolding listedOf bufferOf
   lists-fit h w =
       let g = le-leb (length text) (length before) (omega (arith, measured .place)) in

@@ -9,7 +9,7 @@ use lib.ListN.{length, drop}
 use Rattle.laws.specs.Refusals.{cause, firstOf, orElse}
 use Rattle.words.specs.Field.{le, splice}
 use Rattle.text.specs.Text.{keyText, field, named}
-use Rattle.text.specs.Written.{Written}
+use Rattle.text.specs.Written.{WrittenAt}
 use Rattle.records.specs.declared.Kind.{Kind}
 use Rattle.records.specs.declared.Kind.the-variants.{Put, Tombstone}
 use Rattle.records.specs.declared.Record.{Record}
@@ -73,12 +73,12 @@ textOfShown [] = []
 textOfShown (s ∷ ss) = lineOf (s .key) (s .version) ++ textOfShown ss
 
 -- header: limit, keys in the body, lines that follow
-unfoldable pub headerOf : (limit keys count : ℕ) → List ℕ
-headerOf limit keys count = named limitWord limit ++ (named keysWord keys ++ (named shownWord count ++ newline))
+unfoldable pub listingHeader : (limit keys count : ℕ) → List ℕ
+listingHeader limit keys count = named limitWord limit ++ (named keysWord keys ++ (named shownWord count ++ newline))
 
 -- the listing of a table
 unfoldable pub tableText : Rule → ℕ → List Entry → List ℕ
-tableText rule limit table = headerOf limit (length table) (shownCount rule limit table) ++ linesOf rule limit table
+tableText rule limit table = listingHeader limit (length table) (shownCount rule limit table) ++ linesOf rule limit table
 
 -- `refused R`
 unfoldable pub refusedText : ℕ → List ℕ
@@ -144,5 +144,5 @@ pub record Listing (rule : Rule) (input before : List ℕ) (r : Listed) (after :
 
 -- what a writer of lines leaves: the text from `at` on, and how many lines it has
 pub record Lined (text : List ℕ) (count : ℕ) (before : List ℕ) (at : ℕ) (after : List ℕ) (l : Lines) : Type 0 where
-  pub written : Written before at text after (l .end)
+  pub written : WrittenAt before at text after (l .end)
   pub counted : l .shown ≡ count

@@ -8,12 +8,12 @@ use records::cursor::Head;
 use records::cursor::key_at;
 use words::field;
 ghost use mathlib.Core.Path.{_≡_};
-ghost use Rattle.text.specs.Written.{Ends, Written};
+ghost use Rattle.text.specs.Written.{Ends, WrittenAt};
 ghost use Rattle.records.specs.Places.{entryAt};
 ghost use Rattle.records.specs.Within.{foundOf};
 ghost use Rattle.point.specs.Table.{tableOf};
 ghost use Rattle.lines.specs.Shown.{newestTombstone, shown, shownOne, shownCount};
-ghost use Rattle.lines.specs.Listing.{kindWord, recordText, lineOf, lineFor, linesOf, headerOf, tableText, refusedText, listingRefusal, Lists, Listing, Lined};
+ghost use Rattle.lines.specs.Listing.{kindWord, recordText, lineOf, lineFor, linesOf, listingHeader, tableText, refusedText, listingRefusal, Lists, Listing, Lined};
 ghost use Rattle.lines.specs.Needs.{Stands, Whole};
 ghost use Rattle.lines.specs.Found.{tombstoneFound};
 
@@ -49,7 +49,7 @@ pub struct Lines {
 // Writes `put` or `tomb`, after a space.
 fn put_kind(out: &mut [u8], at: usize, kind: Kind) -> usize
     requires { ⌜ Ends at (kindWord kind) ⌝ }
-    ensures { λ r. ⌜ Written (now (out .entry)) at (kindWord kind) (now (out .exit)) r ⌝ }
+    ensures { λ r. ⌜ WrittenAt (now (out .entry)) at (kindWord kind) (now (out .exit)) r ⌝ }
 {
     match kind {
         Kind::Put => text::put_word(out, at, b" put"),
@@ -60,7 +60,7 @@ fn put_kind(out: &mut [u8], at: usize, kind: Kind) -> usize
 // Writes a record's part of its line, and the newline.
 fn put_record(out: &mut [u8], at: usize, version: Record) -> usize
     requires { ⌜ Ends at (recordText version) ⌝ }
-    ensures { λ r. ⌜ Written (now (out .entry)) at (recordText version) (now (out .exit)) r ⌝ }
+    ensures { λ r. ⌜ WrittenAt (now (out .entry)) at (recordText version) (now (out .exit)) r ⌝ }
 {
     let kind = version.kind;
     let a = text::put_field(out, at, version.sequence);
@@ -73,7 +73,7 @@ fn put_record(out: &mut [u8], at: usize, version: Record) -> usize
 // Writes the line of a key with the record that it shows.
 fn put_line(out: &mut [u8], at: usize, key: &[u8], version: Record) -> usize
     requires { ⌜ Ends at (lineOf (now key) version) ⌝ }
-    ensures { λ r. ⌜ Written (now (out .entry)) at (lineOf (now (key .entry)) version) (now (out .exit)) r ⌝ }
+    ensures { λ r. ⌜ WrittenAt (now (out .entry)) at (lineOf (now (key .entry)) version) (now (out .exit)) r ⌝ }
 {
     let next = text::put_key(out, at, key);
     put_record(out, next, version)
@@ -147,8 +147,8 @@ fn put_lines(out: &mut [u8], at: usize, body: &[u8], limit: u64) -> Lines
 
 // Writes the header.
 fn put_header(out: &mut [u8], at: usize, limit: u64, keys: u64, shown: u64) -> usize
-    requires { ⌜ Ends at (headerOf limit keys shown) ⌝ }
-    ensures { λ r. ⌜ Written (now (out .entry)) at (headerOf limit keys shown) (now (out .exit)) r ⌝ }
+    requires { ⌜ Ends at (listingHeader limit keys shown) ⌝ }
+    ensures { λ r. ⌜ WrittenAt (now (out .entry)) at (listingHeader limit keys shown) (now (out .exit)) r ⌝ }
 {
     let a = text::put_named(out, at, b"limit", limit);
     let b = text::put_named(out, a, b" keys", keys);
@@ -159,7 +159,7 @@ fn put_header(out: &mut [u8], at: usize, limit: u64, keys: u64, shown: u64) -> u
 // Writes `refused R`.
 fn put_refused(out: &mut [u8], at: usize, refusal: u8) -> usize
     requires { ⌜ Ends at (refusedText refusal) ⌝ }
-    ensures { λ r. ⌜ Written (now (out .entry)) at (refusedText refusal) (now (out .exit)) r ⌝ }
+    ensures { λ r. ⌜ WrittenAt (now (out .entry)) at (refusedText refusal) (now (out .exit)) r ⌝ }
 {
     let next = text::put_named(out, at, b"refused", refusal as u64);
     text::put_byte(out, next, b'\n')
@@ -178,7 +178,7 @@ fn count_shown(body: &[u8], limit: u64) -> u64
 // Writes the listing of a body that shows so many keys.
 fn put_table(out: &mut [u8], at: usize, body: &[u8], limit: u64, shown: u64) -> usize
     requires { ⌜ Whole (now body) × (shown ≡ shownCount newestTombstone limit (tableOf (now body))) × Ends at (tableText newestTombstone limit (tableOf (now body))) ⌝ }
-    ensures { λ r. ⌜ Written (now (out .entry)) at (tableText newestTombstone limit (tableOf (now (body .entry)))) (now (out .exit)) r ⌝ }
+    ensures { λ r. ⌜ WrittenAt (now (out .entry)) at (tableText newestTombstone limit (tableOf (now (body .entry)))) (now (out .exit)) r ⌝ }
 {
     let keys = layout::keys_in(body) as u64;
     let next = put_header(out, at, limit, keys, shown);

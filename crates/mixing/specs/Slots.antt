@@ -1,6 +1,5 @@
 -- Buckets and pilots: how many buckets n keys have, and the slot that a bucket's pilot gives a hash (document 01, "Arithmetic and construction").
-use Prim.Native.Nat.{ℕ, _+_, _-_, _/_, _^_, _≤_, _<_}
-use native.Mathlib.Omega.{arith}
+use Prim.Native.Nat.{ℕ, _+_, _-_, _/_, _^_}
 use mathlib.Core.Bool.{cond}
 use lib.Dec.{ltb}
 use Rattle.mixing.specs.Mixing.{positionOf}
@@ -16,12 +15,3 @@ direct = 2 ^ 31
 -- the slot of hash h, of n, under its bucket's pilot: named by it, or by position
 unfoldable pub slotBy : (h pilot n : ℕ) → ℕ
 slotBy h pilot n = cond (ltb pilot direct) (positionOf h pilot n) (pilot - direct)
-
--- some keys have some buckets, and no more of them than keys
-pub some-buckets : (n : ℕ) → 0 < n → 0 < bucketsOf n
-unfolding bucketsOf
-some-buckets n h = omega arith
-
-pub few-buckets : (n : ℕ) → bucketsOf n ≤ n
-unfolding bucketsOf
-few-buckets n = omega arith

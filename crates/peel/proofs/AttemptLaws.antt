@@ -7,27 +7,27 @@ use native.Mathlib.Omega.{arith}
 use borrow.Author.Tests.{eqb-true, eq-eqb, ne-eqb}
 use lib.Dec.{eqb}
 use lib.ListN.{length, replicate, length-set, length-replicate, length-map, drop-of-length-le}
-use Rattle.laws.specs.Cases.{by-test}
-use Rattle.laws.specs.Count.{one, count}
-use Rattle.laws.specs.CountLaws.{count-nil, count-cons, count-here}
+use Rattle.laws.proofs.Cases.{by-test}
+use Rattle.laws.specs.Count.{one, occurs}
+use Rattle.laws.proofs.CountLaws.{occurs-nil, occurs-cons, occurs-here}
 use Rattle.fuse.specs.Asking.{graphHash, xorAt, containsOf}
 use Rattle.fuse.specs.Positions.{Usable, cellsIn, positionsOf}
 use Rattle.fuse.specs.declared.Sizes.{Sizes}
 use Rattle.peel.specs.declared.Graph.{Graph}
-use Rattle.peel.specs.Peel.{Peel, afterSteps, attempt, fill, put, peelsAll, filled, mixed, succeeds, cellsOf}
-use Rattle.peel.specs.Loops.{Whole}
+use Rattle.peel.specs.Peel.{Peel, afterSteps, attempt, fill, put, peelsAll, cellsAfter, mixed, succeeds, cellsLaid}
+use Rattle.peel.specs.Loops.{GraphWhole}
 use Rattle.peel.specs.Sound.{Placed}
-use Rattle.peel.specs.Table.{peels, Ready, Tried}
+use Rattle.peel.specs.Table.{peels, StandsFor, AttemptPost}
 use Rattle.peel.proofs.PeelLaws.{sound-start, sound-run, room, queued-once, run-ends, all-present}
 use Rattle.peel.proofs.PlaceLaws.{mixed-placed}
 use Rattle.peel.proofs.StepLaws.{all-peeled}
 
 module _ (segment number seed : ℕ) (u : Usable segment number) (hashes : List ℕ) where
-  placed : (h : ℕ) → 1 ≤ count h (mixed seed hashes) → Placed (cellsIn segment number) (positionsOf segment number) h
+  placed : (h : ℕ) → 1 ≤ occurs h (mixed seed hashes) → Placed (cellsIn segment number) (positionsOf segment number) h
   placed = mixed-placed segment number u seed hashes
 
   -- over a whole attempt each cell is queued at most once: after any number of steps it was taken, or waits, once at most
-  pub cell-queued-once : (steps cell : ℕ) → count cell (afterSteps segment number seed hashes steps .taken) + count cell (afterSteps segment number seed hashes steps .queue) ≤ 1
+  pub cell-queued-once : (steps cell : ℕ) → occurs cell (afterSteps segment number seed hashes steps .taken) + occurs cell (afterSteps segment number seed hashes steps .queue) ≤ 1
   cell-queued-once steps cell = queued-once (positionsOf segment number) (cellsIn segment number) (mixed seed hashes) placed steps cell
 
   -- so as many places as there are cells are enough for all that were taken or wait
@@ -55,35 +55,35 @@ module _ (pos : ℕ → List ℕ) (c : ℕ) (hs : List ℕ) where
   unfolding peelsAll
   all-left e = drop-of-length-le (attempt pos c hs .left) {i = 0} (omega (arith, eqb-true (length (attempt pos c hs .left)) 0 e))
 
-  filled-is : (es : List Peel) → attempt pos c hs .peeled ≡ es → fill pos es (replicate c 0) ≡ filled pos c hs
-  unfolding filled
+  filled-is : (es : List Peel) → attempt pos c hs .peeled ≡ es → fill pos es (replicate c 0) ≡ cellsAfter pos c hs
+  unfolding cellsAfter
   filled-is es e = ap (λ (l : List Peel). fill pos l (replicate c 0)) (sym e)
 
 -- ---- every hash is present
 
-mixed-count : (seed hash : ℕ) (hashes : List ℕ) → 1 ≤ count hash hashes → 1 ≤ count (graphHash seed hash) (mixed seed hashes)
-mixed-count seed hash [] k = absurd (omega (arith, count-nil hash))
+mixed-count : (seed hash : ℕ) (hashes : List ℕ) → 1 ≤ occurs hash hashes → 1 ≤ occurs (graphHash seed hash) (mixed seed hashes)
+mixed-count seed hash [] k = absurd (omega (arith, occurs-nil hash))
 mixed-count seed hash (x ∷ hashes) k =
     by-test (eqb hash x)
-    (λ e. rw (eqb-true hash x e) (omega (arith, count-here (graphHash seed x) (mixed seed hashes))))
+    (λ e. rw (eqb-true hash x e) (omega (arith, occurs-here (graphHash seed x) (mixed seed hashes))))
     (λ e.
     omega (
       arith,
-      mixed-count seed hash hashes (omega (arith, count-cons hash x hashes, ap one e)),
-      count-cons (graphHash seed hash) (graphHash seed x) (mixed seed hashes),
+      mixed-count seed hash hashes (omega (arith, occurs-cons hash x hashes, ap one e)),
+      occurs-cons (graphHash seed hash) (graphHash seed x) (mixed seed hashes),
     ))
 
 module _ (segment number seed : ℕ) (u : Usable segment number) (hashes : List ℕ) (ok : succeeds segment number seed hashes ≡ true) where
   -- if every hash was peeled, every hash's four cells xor to the low byte of its h
-  pub hashes-present : (hash : ℕ) → 1 ≤ count hash hashes
-      → xorAt (cellsOf segment number seed hashes) (positionsOf segment number (graphHash seed hash)) ≡ graphHash seed hash % 256
+  pub hashes-present : (hash : ℕ) → 1 ≤ occurs hash hashes
+      → xorAt (cellsLaid segment number seed hashes) (positionsOf segment number (graphHash seed hash)) ≡ graphHash seed hash % 256
   hashes-present hash k =
       all-present (positionsOf segment number) (cellsIn segment number) (mixed seed hashes) (mixed-placed segment number u seed hashes)
       (all-left (positionsOf segment number) (cellsIn segment number) (mixed seed hashes) ok) _ (mixed-count seed hash hashes k)
 
 -- so the closing membership check never fails
 pub check-never-fails : (s : Sizes) → Usable (s .segment) (s .count) → (hashes : List ℕ) → succeeds (s .segment) (s .count) (s .seed) hashes ≡ true
-    → (hash : ℕ) → 1 ≤ count hash hashes → containsOf (cellsOf (s .segment) (s .count) (s .seed) hashes) s hash ≡ true
+    → (hash : ℕ) → 1 ≤ occurs hash hashes → containsOf (cellsLaid (s .segment) (s .count) (s .seed) hashes) s hash ≡ true
 unfolding containsOf
 check-never-fails s u hashes ok hash k = eq-eqb _ _ (hashes-present (s .segment) (s .count) (s .seed) u hashes ok hash k)
 
@@ -94,22 +94,22 @@ unfolding fill
 fill-length pos [] cells = refl
 fill-length pos (e ∷ es) cells = fill-length pos es (put pos e cells) ∙ length-set cells (e .cell) _
 
-pub cells-length : (segment number seed : ℕ) (hashes : List ℕ) → length (cellsOf segment number seed hashes) ≡ cellsIn segment number
-unfolding filled
+pub cells-length : (segment number seed : ℕ) (hashes : List ℕ) → length (cellsLaid segment number seed hashes) ≡ cellsIn segment number
+unfolding cellsAfter
 cells-length segment number seed hashes = fill-length (positionsOf segment number) _ _ ∙ length-replicate (cellsIn segment number) 0
 
 -- ---- the outcome
 
-module _ (g : Graph) (w : Whole g) (hashes before wide narrow : List ℕ) (top n : ℕ)
-    (R : Ready (positionsOf (g .segment) (g .count)) (g .cells) (mixed (g .seed) hashes) (attempt (positionsOf (g .segment) (g .count)) (g .cells) (mixed (g .seed) hashes)) wide narrow top n) where
+module _ (g : Graph) (w : GraphWhole g) (hashes before wide narrow : List ℕ) (top n : ℕ)
+    (R : StandsFor (positionsOf (g .segment) (g .count)) (g .cells) (mixed (g .seed) hashes) (attempt (positionsOf (g .segment) (g .count)) (g .cells) (mixed (g .seed) hashes)) wide narrow top n) where
   whole-sum : n + length (attempt (positionsOf (g .segment) (g .count)) (g .cells) (mixed (g .seed) hashes) .left) ≡ length hashes
   whole-sum = all-peeled _ _ _ _ wide narrow top n R ∙ length-map hashes (graphHash (g .seed))
 
   pub peeled-fits : n ≤ length hashes
   peeled-fits = omega (arith, whole-sum)
 
-  pub tried-no : n < length hashes → Tried (g .segment) (g .count) (g .seed) hashes before before false
-  tried-no l = record { answer = sym no; cells = ap (λ (b : Bool). cond b (cellsOf (g .segment) (g .count) (g .seed) hashes) before) (sym no) }
+  pub tried-no : n < length hashes → AttemptPost (g .segment) (g .count) (g .seed) hashes before before false
+  tried-no l = record { answer = sym no; cells = ap (λ (b : Bool). cond b (cellsLaid (g .segment) (g .count) (g .seed) hashes) before) (sym no) }
     where
       no : succeeds (g .segment) (g .count) (g .seed) hashes ≡ false
       no =
@@ -117,13 +117,13 @@ module _ (g : Graph) (w : Whole g) (hashes before wide narrow : List ℕ) (top n
           ∙ peels-some _ (g .cells) (mixed (g .seed) hashes) (λ e. omega (arith, whole-sum))
 
   pub tried-yes : length hashes ≤ n → (after : List ℕ) → after ≡ fill (positionsOf (g .segment) (g .count)) (peels (g .cells) n wide narrow) (replicate (g .cells) 0)
-      → Tried (g .segment) (g .count) (g .seed) hashes before after true
-  tried-yes l after e = record { answer = sym yes; cells = e ∙ full ∙ ap (λ (b : Bool). cond b (cellsOf (g .segment) (g .count) (g .seed) hashes) before) (sym yes) }
+      → AttemptPost (g .segment) (g .count) (g .seed) hashes before after true
+  tried-yes l after e = record { answer = sym yes; cells = e ∙ full ∙ ap (λ (b : Bool). cond b (cellsLaid (g .segment) (g .count) (g .seed) hashes) before) (sym yes) }
     where
       yes : succeeds (g .segment) (g .count) (g .seed) hashes ≡ true
       yes =
           ap (λ (c : ℕ). peelsAll (positionsOf (g .segment) (g .count)) c (mixed (g .seed) hashes)) (sym (w .whole))
           ∙ peels-all _ (g .cells) (mixed (g .seed) hashes) (omega (arith, whole-sum))
 
-      full : fill (positionsOf (g .segment) (g .count)) (peels (g .cells) n wide narrow) (replicate (g .cells) 0) ≡ cellsOf (g .segment) (g .count) (g .seed) hashes
-      full = filled-is (positionsOf (g .segment) (g .count)) (g .cells) (mixed (g .seed) hashes) _ (R .peeled) ∙ ap (λ (c : ℕ). filled (positionsOf (g .segment) (g .count)) c (mixed (g .seed) hashes)) (w .whole)
+      full : fill (positionsOf (g .segment) (g .count)) (peels (g .cells) n wide narrow) (replicate (g .cells) 0) ≡ cellsLaid (g .segment) (g .count) (g .seed) hashes
+      full = filled-is (positionsOf (g .segment) (g .count)) (g .cells) (mixed (g .seed) hashes) _ (R .peeled) ∙ ap (λ (c : ℕ). cellsAfter (positionsOf (g .segment) (g .count)) c (mixed (g .seed) hashes)) (w .whole)

@@ -10,14 +10,14 @@ use lib.Dec.{ltb}
 use lib.Bits.{bitXor}
 use lib.ListN.{length, getD, set, length-set}
 use lib.Seq.{getD-set-same, getD-set-other}
-use Rattle.laws.specs.Cases.{by-test}
-use Rattle.laws.specs.Count.{count, without, rising}
-use Rattle.laws.specs.CountLaws.{count-cons, count-here, count-below, rising-not}
+use Rattle.laws.proofs.Cases.{by-test}
+use Rattle.laws.specs.Count.{occurs, without, rising}
+use Rattle.laws.proofs.CountLaws.{occurs-cons, occurs-here, occurs-below, rising-not}
 use Rattle.fuse.specs.Asking.{xorAt}
-use Rattle.peel.specs.Peel.{Peel, Attempt, lying, skip, peel, settle, next, step, run, start, attempt, put, fill}
-use Rattle.peel.specs.Sound.{Placed, Peelable, hashes}
+use Rattle.peel.specs.Peel.{Peel, Attempt, lying, skip, peel, takeCell, next, oneStep, run, begun, attempt, put, fill}
+use Rattle.peel.specs.Sound.{Placed, Peelable, hashesPeeled}
 use Rattle.peel.specs.Loops.{Below}
-use Rattle.peel.specs.Table.{xors, stack, peels, changed, plus, noted, Queued, Tables, Ready}
+use Rattle.peel.specs.Table.{xors, stack, peels, changed, plus, queuedBy, Queued, Tables, StandsFor}
 use Rattle.peel.proofs.PeelLaws.{lying-head, sound-step, sound-skip, room, sound-start}
 use Rattle.peel.proofs.TableLaws.{xors-one, stack-suc, stack-none, length-stack, stack-same, tables-remove, tables-same, noted-queued, changed-other, length-changed, degree-le}
 
@@ -52,21 +52,21 @@ one-hash [] e = absurd (omega arith)
 one-hash (h ∷ []) e = ap (λ (x : ℕ). x ∷ []) (sym (xors-one h))
 one-hash (h ∷ k ∷ hs) e = absurd (omega arith)
 
-settle-skip : (pos : ℕ → List ℕ) (hs : List ℕ) (p : ℕ) (q : List ℕ) (s : Attempt) → (length hs ≡ 1 → ⊥) → settle pos hs p q s ≡ skip pos p q s
+settle-skip : (pos : ℕ → List ℕ) (hs : List ℕ) (p : ℕ) (q : List ℕ) (s : Attempt) → (length hs ≡ 1 → ⊥) → takeCell pos hs p q s ≡ skip pos p q s
 settle-skip pos [] p q s e = refl
 settle-skip pos (h ∷ []) p q s e = absurd (e refl)
 settle-skip pos (h ∷ k ∷ hs) p q s e = refl
 
 module _ (pos : ℕ → List ℕ) (c : ℕ) (hs : List ℕ) (s : Attempt) (wide narrow : List ℕ) where
   -- the queue is never longer than there are cells
-  pub top-le : (top n : ℕ) → Ready pos c hs s wide narrow top n → top ≤ c
+  pub top-le : (top n : ℕ) → StandsFor pos c hs s wide narrow top n → top ≤ c
   top-le top n R = omega (arith, room pos c hs s (R .sound), ap length (R .waiting), length-stack c top narrow)
 
   -- an empty queue
-  pub ready-empty : (n : ℕ) → Ready pos c hs s wide narrow 0 n → step pos s ≡ s
+  pub ready-empty : (n : ℕ) → StandsFor pos c hs s wide narrow 0 n → oneStep pos s ≡ s
   ready-empty n R = ap (λ (l : List ℕ). next pos l s) (R .waiting ∙ stack-none c narrow)
 
-  module _ (t n : ℕ) (R : Ready pos c hs s wide narrow (suc t) n) where
+  module _ (t n : ℕ) (R : StandsFor pos c hs s wide narrow (suc t) n) where
     p : ℕ
     p = getD narrow (c + t) 0
 
@@ -78,17 +78,17 @@ module _ (pos : ℕ → List ℕ) (c : ℕ) (hs : List ℕ) (s : Attempt) (wide 
     pub cell-under : getD narrow (c + t) 0 < c
     unfolding p
     cell-under =
-        count-below c p (s .queue) (λ v k. omega (arith, R .sound .below v k))
-        (omega (arith, ap (count p) taken-cell, count-here p (stack c t narrow)))
+        occurs-below c p (s .queue) (λ v k. omega (arith, R .sound .below v k))
+        (omega (arith, ap (occurs p) taken-cell, occurs-here p (stack c t narrow)))
 
-    settled : step pos s ≡ settle pos (lying pos p (s .left)) p (stack c t narrow) s
+    settled : oneStep pos s ≡ takeCell pos (lying pos p (s .left)) p (stack c t narrow) s
     settled = ap (λ (l : List ℕ). next pos l s) taken-cell
 
     -- a cell of another degree is skipped
-    pub ready-skip : (getD narrow (getD narrow (c + t) 0) 0 ≡ 1 → ⊥) → Ready pos c hs (step pos s) wide narrow t n
+    pub ready-skip : (getD narrow (getD narrow (c + t) 0) 0 ≡ 1 → ⊥) → StandsFor pos c hs (oneStep pos s) wide narrow t n
     unfolding p
     ready-skip e =
-        let k : step pos s ≡ skip pos p (stack c t narrow) s =
+        let k : oneStep pos s ≡ skip pos p (stack c t narrow) s =
         settled ∙ settle-skip pos (lying pos p (s .left)) p (stack c t narrow) s (λ z. e (R .tables .degree-at p cell-under ∙ z)) in
         rw k
         (record {
@@ -112,10 +112,10 @@ module _ (pos : ℕ → List ℕ) (c : ℕ) (hs : List ℕ) (s : Attempt) (wide 
           let k : lying pos p (s .left) ≡ xors (lying pos p (s .left)) ∷ [] = one-hash _ (sym (R .tables .degree-at p cell-under) ∙ e) in
           k ∙ ap (λ (y : ℕ). y ∷ []) (sym (R .tables .xor-at p cell-under))
 
-      peeling : step pos s ≡ peel pos h p (stack c t narrow) s
-      peeling = settled ∙ ap (λ (l : List ℕ). settle pos l p (stack c t narrow) s) only
+      peeling : oneStep pos s ≡ peel pos h p (stack c t narrow) s
+      peeling = settled ∙ ap (λ (l : List ℕ). takeCell pos l p (stack c t narrow) s) only
 
-      here : 1 ≤ count h (s .left)
+      here : 1 ≤ occurs h (s .left)
       here = lying-head pos p h (s .left) [] only .0
 
       placed-h : Placed c pos h
@@ -185,19 +185,19 @@ module _ (pos : ℕ → List ℕ) (c : ℕ) (hs : List ℕ) (s : Attempt) (wide 
           queue-kept : stack c t narrow₂ ≡ stack c t narrow
           queue-kept = stack-same c t narrow narrow₂ (λ i l. narrow-kept (c + i) (omega arith) (λ z. omega (arith, top-le (suc t) n R)))
 
-          next-queue : noted narrow₂ ps (stack c t narrow₂) ≡ step pos s .queue
+          next-queue : queuedBy narrow₂ ps (stack c t narrow₂) ≡ oneStep pos s .queue
           unfolding h
           next-queue =
-              ap₂ (noted narrow₂) eps queue-kept ∙ noted-queued pos c (without h (s .left)) narrow₂ wide₂ after (pos h) (placed-h .below) (stack c t narrow)
+              ap₂ (queuedBy narrow₂) eps queue-kept ∙ noted-queued pos c (without h (s .left)) narrow₂ wide₂ after (pos h) (placed-h .below) (stack c t narrow)
               ∙ sym (ap (λ (a : Attempt). a .queue) peeling)
 
           -- there is room on the queue
-          pub room-queue : length (noted narrow₂ ps (stack c t narrow₂)) ≤ c
-          room-queue = omega (arith, ap length next-queue, room pos c hs (step pos s) (sound-step pos c hs (R .placed) s (R .sound)))
+          pub room-queue : length (queuedBy narrow₂ ps (stack c t narrow₂)) ≤ c
+          room-queue = omega (arith, ap length next-queue, room pos c hs (oneStep pos s) (sound-step pos c hs (R .placed) s (R .sound)))
 
           -- those of its cells that have degree 1 are queued
-          pub ready-peel : (narrow₃ : List ℕ) (u : ℕ) → length narrow₃ ≡ length narrow₂ → Queued c (noted narrow₂ ps (stack c t narrow₂)) u narrow₂ narrow₃
-              → Ready pos c hs (step pos s) wide₂ narrow₃ u (n + 1)
+          pub ready-peel : (narrow₃ : List ℕ) (u : ℕ) → length narrow₃ ≡ length narrow₂ → Queued c (queuedBy narrow₂ ps (stack c t narrow₂)) u narrow₂ narrow₃
+              → StandsFor pos c hs (oneStep pos s) wide₂ narrow₃ u (n + 1)
           unfolding p h
           ready-peel narrow₃ u l Q =
               record {
@@ -220,26 +220,26 @@ module _ (pos : ℕ → List ℕ) (c : ℕ) (hs : List ℕ) (s : Attempt) (wide 
               }
 
 -- a queue that is not empty has a last entry
-pub ready-suc : {pos : ℕ → List ℕ} {c : ℕ} {hs : List ℕ} {s : Attempt} {wide narrow : List ℕ} {n : ℕ} (top : ℕ) → (top ≡ 0 → ⊥) → Ready pos c hs s wide narrow top n
-    → Ready pos c hs s wide narrow (suc (top - 1)) n
-ready-suc {pos} {c} {hs} {s} {wide} {narrow} {n} top z R = subst (λ (m : ℕ). Ready pos c hs s wide narrow m n) (omega arith) R
+pub ready-suc : {pos : ℕ → List ℕ} {c : ℕ} {hs : List ℕ} {s : Attempt} {wide narrow : List ℕ} {n : ℕ} (top : ℕ) → (top ≡ 0 → ⊥) → StandsFor pos c hs s wide narrow top n
+    → StandsFor pos c hs s wide narrow (suc (top - 1)) n
+ready-suc {pos} {c} {hs} {s} {wide} {narrow} {n} top z R = subst (λ (m : ℕ). StandsFor pos c hs s wide narrow m n) (omega arith) R
 
 -- ---- all steps
 
-run-suc : (pos : ℕ → List ℕ) (n : ℕ) (s : Attempt) → run pos (suc n) s ≡ step pos (run pos n s)
+run-suc : (pos : ℕ → List ℕ) (n : ℕ) (s : Attempt) → run pos (suc n) s ≡ oneStep pos (run pos n s)
 unfolding run
 run-suc pos zero s = refl
-run-suc pos (suc n) s = run-suc pos n (step pos s)
+run-suc pos (suc n) s = run-suc pos n (oneStep pos s)
 
 -- one step more, at the end
-pub run-step : (pos : ℕ → List ℕ) (n : ℕ) (s : Attempt) → run pos (n + 1) s ≡ step pos (run pos n s)
+pub run-step : (pos : ℕ → List ℕ) (n : ℕ) (s : Attempt) → run pos (n + 1) s ≡ oneStep pos (run pos n s)
 run-step pos n s = ap (λ (m : ℕ). run pos m s) (add-one n) ∙ run-suc pos n s
 
 pub run-none : (pos : ℕ → List ℕ) (s : Attempt) → run pos 0 s ≡ s
 unfolding run
 run-none pos s = refl
 
-pub attempt-is : (pos : ℕ → List ℕ) (c : ℕ) (hs : List ℕ) → attempt pos c hs ≡ run pos c (start pos c hs)
+pub attempt-is : (pos : ℕ → List ℕ) (c : ℕ) (hs : List ℕ) → attempt pos c hs ≡ run pos c (begun pos c hs)
 unfolding attempt
 attempt-is pos c hs = refl
 
@@ -269,9 +269,9 @@ fill-end pos c wide narrow cells whole i e w =
 -- ---- a whole attempt
 
 -- the workspace after loading and queueing
-pub ready-start : (pos : ℕ → List ℕ) (c : ℕ) (hs wide narrow narrow' : List ℕ) (top : ℕ) → ((h : ℕ) → 1 ≤ count h hs → Placed c pos h) → Tables pos c hs narrow wide
-    → Queued c (noted narrow (rising 0 c) []) top narrow narrow' → length narrow' ≡ length narrow → c + length hs ≤ length wide → c + c + length hs ≤ length narrow
-    → Ready pos c hs (start pos c hs) wide narrow' top 0
+pub ready-start : (pos : ℕ → List ℕ) (c : ℕ) (hs wide narrow narrow' : List ℕ) (top : ℕ) → ((h : ℕ) → 1 ≤ occurs h hs → Placed c pos h) → Tables pos c hs narrow wide
+    → Queued c (queuedBy narrow (rising 0 c) []) top narrow narrow' → length narrow' ≡ length narrow → c + length hs ≤ length wide → c + c + length hs ≤ length narrow
+    → StandsFor pos c hs (begun pos c hs) wide narrow' top 0
 ready-start pos c hs wide narrow narrow' top placed t Q l a b =
     record {
       placed = placed;
@@ -284,7 +284,7 @@ ready-start pos c hs wide narrow narrow' top placed t Q l a b =
     }
 
 -- as many peeled as there are hashes: all of them
-pub all-peeled : (pos : ℕ → List ℕ) (c : ℕ) (hs : List ℕ) (s : Attempt) (wide narrow : List ℕ) (top n : ℕ) → Ready pos c hs s wide narrow top n
+pub all-peeled : (pos : ℕ → List ℕ) (c : ℕ) (hs : List ℕ) (s : Attempt) (wide narrow : List ℕ) (top n : ℕ) → StandsFor pos c hs s wide narrow top n
     → n + length (s .left) ≡ length hs
 all-peeled pos c hs s wide narrow top n R = omega (arith, R .sound .sum, ap length (R .peeled), length-peels c n wide narrow)
 
@@ -299,9 +299,9 @@ cells-below pos c (suc n) wide narrow hs ok g i h =
     (λ t. cells-below pos c n wide narrow _ (λ j k. ok j (omega arith)) (g' .2) i (ltb-true i n t))
     (λ t.
     let e : i ≡ n = omega (arith, ltb-false i n t) in
-    rw e (count-below c (getD narrow (c + c + n) 0) (pos (getD wide (c + n) 0)) (ok n (omega arith) .below) (ltb-true 0 _ (g' .0))))
+    rw e (occurs-below c (getD narrow (c + c + n) 0) (pos (getD wide (c + n) 0)) (ok n (omega arith) .below) (ltb-true 0 _ (g' .0))))
 
-peels-hash : (c n : ℕ) (wide narrow : List ℕ) (i : ℕ) → i < n → 1 ≤ count (getD wide (c + i) 0) (hashes (peels c n wide narrow))
+peels-hash : (c n : ℕ) (wide narrow : List ℕ) (i : ℕ) → i < n → 1 ≤ occurs (getD wide (c + i) 0) (hashesPeeled (peels c n wide narrow))
 peels-hash c zero wide narrow i h = absurd (not-suc-le-zero h)
 peels-hash c (suc n) wide narrow i h =
     rw (peels-suc c n wide narrow)
@@ -310,14 +310,14 @@ peels-hash c (suc n) wide narrow i h =
     omega (
       arith,
       peels-hash c n wide narrow i (ltb-true i n t),
-      count-cons (getD wide (c + i) 0) (getD wide (c + n) 0) (hashes (peels c n wide narrow)),
+      occurs-cons (getD wide (c + i) 0) (getD wide (c + n) 0) (hashesPeeled (peels c n wide narrow)),
     ))
     (λ t.
     let e : i ≡ n = omega (arith, ltb-false i n t) in
-    rw e (omega (arith, count-here (getD wide (c + n) 0) (hashes (peels c n wide narrow))))))
+    rw e (omega (arith, occurs-here (getD wide (c + n) 0) (hashesPeeled (peels c n wide narrow))))))
 
-pub peeled-below : (pos : ℕ → List ℕ) (c : ℕ) (hs : List ℕ) (s : Attempt) (wide narrow : List ℕ) (top n : ℕ) → Ready pos c hs s wide narrow top n
+pub peeled-below : (pos : ℕ → List ℕ) (c : ℕ) (hs : List ℕ) (s : Attempt) (wide narrow : List ℕ) (top n : ℕ) → StandsFor pos c hs s wide narrow top n
     → (i : ℕ) → i < n → getD narrow (c + c + i) 0 < c
 peeled-below pos c hs s wide narrow top n R =
-    cells-below pos c n wide narrow (s .left) (λ i h. R .placed _ (omega (arith, R .sound .all (getD wide (c + i) 0), ap (λ (es : List Peel). count (getD wide (c + i) 0) (hashes es)) (R .peeled), peels-hash c n wide narrow i h)))
+    cells-below pos c n wide narrow (s .left) (λ i h. R .placed _ (omega (arith, R .sound .all (getD wide (c + i) 0), ap (λ (es : List Peel). occurs (getD wide (c + i) 0) (hashesPeeled es)) (R .peeled), peels-hash c n wide narrow i h)))
     (subst (λ (es : List Peel). Peelable pos es (s .left)) (R .peeled) (R .sound .good))

@@ -11,14 +11,14 @@ use lib.Dec.{eqb}
 use lib.Bits.{bitXor, xor-zero-r, xor-comm}
 use lib.ListN.{length, getD, set, replicate, take, drop, drop-of-length-le, length-set, length-drop, length-replicate, getD-replicate, List·getD-append}
 use lib.Seq.{getD-set-same, getD-set-other, length-take-le, drop-cons}
-use Rattle.laws.specs.Cases.{by-test}
-use Rattle.laws.specs.Count.{one, count, among, keep, without, rising}
-use Rattle.laws.specs.Lists.{drop-next}
-use Rattle.laws.specs.XorLaws.{xor-swap, xor-back}
-use Rattle.laws.specs.CountLaws.{count-nil, count-cons, count-here, count-other, count-at, count-below, among-once, without-cons, rising-cons, rising-none}
+use Rattle.laws.proofs.Cases.{by-test}
+use Rattle.laws.specs.Count.{one, occurs, among, keep, without, rising}
+use Rattle.laws.proofs.Lists.{drop-next}
+use Rattle.laws.proofs.XorLaws.{xor-swap, xor-back}
+use Rattle.laws.proofs.CountLaws.{occurs-nil, occurs-cons, occurs-here, occurs-other, occurs-at, occurs-below, among-once, without-cons, rising-cons, rising-none}
 use Rattle.peel.specs.Sound.{Placed}
 use Rattle.peel.specs.Peel.{lying, degree, queued}
-use Rattle.peel.specs.Table.{xors, stack, changed, plus, noted, Queued, Tables}
+use Rattle.peel.specs.Table.{xors, stack, changed, plus, queuedBy, Queued, Tables}
 use Rattle.peel.specs.Loops.{Below}
 use Rattle.peel.proofs.PeelLaws.{lying-cons, lying-nil, degree-nil, degree-cons, degree-without, queued-cons, queued-nil}
 
@@ -26,7 +26,7 @@ use Rattle.peel.proofs.PeelLaws.{lying-cons, lying-nil, degree-nil, deg
 
 -- the cells ps are all below c
 pub cell-below : (c : ℕ) (ps : List ℕ) → Below c ps → (i : ℕ) → i < length ps → getD ps i 0 < c
-cell-below c ps b i h = count-below c (getD ps i 0) ps b (count-at ps i h)
+cell-below c ps b i h = occurs-below c (getD ps i 0) ps b (occurs-at ps i h)
 
 module _ (f : ℕ → ℕ) where
   changed-cons : (p : ℕ) (ps d : List ℕ) → changed f (p ∷ ps) d ≡ changed f ps (set d p (f (getD d p 0)))
@@ -42,24 +42,24 @@ module _ (f : ℕ → ℕ) where
   length-changed (p ∷ ps) d = ap length (changed-cons p ps d) ∙ length-changed ps _ ∙ length-set d p _
 
   -- a cell that is not named is as it was
-  pub changed-other : (ps d : List ℕ) (v : ℕ) → count v ps ≡ 0 → getD (changed f ps d) v 0 ≡ getD d v 0
+  pub changed-other : (ps d : List ℕ) (v : ℕ) → occurs v ps ≡ 0 → getD (changed f ps d) v 0 ≡ getD d v 0
   changed-other [] d v z = rw changed-nil refl
   changed-other (p ∷ ps) d v z =
       by-test (eqb v p)
-      (λ e. absurd (omega (arith, count-cons v p ps, ap one e)))
-      (λ e. rw changed-cons (changed-other ps _ v (omega (arith, count-cons v p ps)) ∙ getD-set-other d p v _ 0 (eqb-false v p e)))
+      (λ e. absurd (omega (arith, occurs-cons v p ps, ap one e)))
+      (λ e. rw changed-cons (changed-other ps _ v (omega (arith, occurs-cons v p ps)) ∙ getD-set-other d p v _ 0 (eqb-false v p e)))
 
   -- one that is named once is changed
-  pub changed-at : (ps d : List ℕ) (v : ℕ) → v < length d → count v ps ≡ 1 → getD (changed f ps d) v 0 ≡ f (getD d v 0)
-  changed-at [] d v l z = absurd (omega (arith, count-nil v))
+  pub changed-at : (ps d : List ℕ) (v : ℕ) → v < length d → occurs v ps ≡ 1 → getD (changed f ps d) v 0 ≡ f (getD d v 0)
+  changed-at [] d v l z = absurd (omega (arith, occurs-nil v))
   changed-at (p ∷ ps) d v l z =
       by-test (eqb v p)
       (λ e.
       let s : v ≡ p = eqb-true v p e in
-      rw changed-cons (changed-other ps _ v (omega (arith, count-cons v p ps, ap one e)) ∙ rw s (getD-set-same d p _ 0 (rw s at l))))
+      rw changed-cons (changed-other ps _ v (omega (arith, occurs-cons v p ps, ap one e)) ∙ rw s (getD-set-same d p _ 0 (rw s at l))))
       (λ e.
       rw changed-cons
-      (changed-at ps _ v (rw length-set l) (omega (arith, count-cons v p ps, ap one e)) ∙ ap f (getD-set-other d p v _ 0 (eqb-false v p e))))
+      (changed-at ps _ v (rw length-set l) (omega (arith, occurs-cons v p ps, ap one e)) ∙ ap f (getD-set-other d p v _ 0 (eqb-false v p e))))
 
   -- the first i of the cells are changed
   pub record Changing (ps d₀ : List ℕ) (i : ℕ) (d : List ℕ) : Type 0 where
@@ -146,12 +146,12 @@ queued-goes c top p r xs h l k e er =
 
 -- ---- cells noted
 
-pub noted-cons : (d : List ℕ) (p : ℕ) (ps q : List ℕ) → noted d (p ∷ ps) q ≡ noted d ps (keep (eqb (getD d p 0) 1) p q)
-unfolding noted
+pub noted-cons : (d : List ℕ) (p : ℕ) (ps q : List ℕ) → queuedBy d (p ∷ ps) q ≡ queuedBy d ps (keep (eqb (getD d p 0) 1) p q)
+unfolding queuedBy
 noted-cons d p ps q = refl
 
-pub noted-nil : (d q : List ℕ) → noted d [] q ≡ q
-unfolding noted
+pub noted-nil : (d q : List ℕ) → queuedBy d [] q ≡ q
+unfolding queuedBy
 noted-nil d q = refl
 
 pub length-keep : (b : Bool) (p : ℕ) (q : List ℕ) → (length q ≤ length (keep b p q)) × (length (keep b p q) ≤ suc (length q))
@@ -159,25 +159,25 @@ length-keep true p q = omega arith
 length-keep false p q = omega arith
 
 below-head : (c p : ℕ) (ps : List ℕ) → Below c (p ∷ ps) → p < c
-below-head c p ps b = count-below c p (p ∷ ps) b (omega (arith, count-here p ps))
+below-head c p ps b = occurs-below c p (p ∷ ps) b (omega (arith, occurs-here p ps))
 
 -- noting cells takes none off the queue
-pub noted-longer : (d ps q : List ℕ) → length q ≤ length (noted d ps q)
+pub noted-longer : (d ps q : List ℕ) → length q ≤ length (queuedBy d ps q)
 noted-longer d [] q = rw noted-nil (omega arith)
 noted-longer d (p ∷ ps) q = rw noted-cons (omega (arith, noted-longer d ps (keep (eqb (getD d p 0) 1) p q), length-keep (eqb (getD d p 0) 1) p q))
 
 -- the degrees may stand in another list
-pub noted-same : (c : ℕ) (d d' ps q : List ℕ) → Below c ps → ((v : ℕ) → v < c → getD d' v 0 ≡ getD d v 0) → noted d' ps q ≡ noted d ps q
+pub noted-same : (c : ℕ) (d d' ps q : List ℕ) → Below c ps → ((v : ℕ) → v < c → getD d' v 0 ≡ getD d v 0) → queuedBy d' ps q ≡ queuedBy d ps q
 noted-same c d d' [] q b e = noted-nil d' q ∙ sym (noted-nil d q)
 noted-same c d d' (p ∷ ps) q b e =
     noted-cons d' p ps q
-    ∙ ap (λ (n : ℕ). noted d' ps (keep (eqb n 1) p q)) (e p (below-head c p ps b))
-    ∙ noted-same c d d' ps _ (λ v k. omega (arith, b v k, count-cons v p ps)) e ∙ sym (noted-cons d p ps q)
+    ∙ ap (λ (n : ℕ). queuedBy d' ps (keep (eqb n 1) p q)) (e p (below-head c p ps b))
+    ∙ noted-same c d d' ps _ (λ v k. omega (arith, b v k, occurs-cons v p ps)) e ∙ sym (noted-cons d p ps q)
 
 -- so many of the cells are queued, and the rest of them makes the whole
 pub record Noting (c : ℕ) (d₀ whole rest : List ℕ) (top : ℕ) (d : List ℕ) : Type 0 where
   pub size : length d ≡ length d₀
-  pub whole-is : noted d₀ rest (stack c top d) ≡ whole
+  pub whole-is : queuedBy d₀ rest (stack c top d) ≡ whole
   pub degrees : (v : ℕ) → v < c → getD d v 0 ≡ getD d₀ v 0
   pub behind : (v : ℕ) → c + c ≤ v → getD d v 0 ≡ getD d₀ v 0
 
@@ -188,8 +188,8 @@ noting-turn c d₀ whole rest top d p ps e l N d' r s Q =
     record {
       size = s ∙ N .size;
       whole-is =
-          ap (noted d₀ ps) (Q .waiting ∙ ap (λ (n : ℕ). keep (eqb n 1) p (stack c top d)) (N .degrees p l))
-          ∙ sym (noted-cons d₀ p ps _) ∙ ap (λ (y : List ℕ). noted d₀ y (stack c top d)) (sym e) ∙ N .whole-is;
+          ap (queuedBy d₀ ps) (Q .waiting ∙ ap (λ (n : ℕ). keep (eqb n 1) p (stack c top d)) (N .degrees p l))
+          ∙ sym (noted-cons d₀ p ps _) ∙ ap (λ (y : List ℕ). queuedBy d₀ y (stack c top d)) (sym e) ∙ N .whole-is;
       degrees = λ v h. Q .degrees v h ∙ N .degrees v h;
       behind = λ v h. Q .behind v h ∙ N .behind v h;
     }
@@ -198,16 +198,16 @@ noting-turn c d₀ whole rest top d p ps e l N d' r s Q =
 pub noting-room : (c : ℕ) (d₀ whole rest : List ℕ) (top : ℕ) (d : List ℕ) (p : ℕ) (ps : List ℕ) → rest ≡ p ∷ ps → p < c → Noting c d₀ whole rest top d
     → length whole ≤ c → getD d p 0 ≡ 1 → top < c
 noting-room c d₀ whole rest top d p ps e l N k one-there =
-    let w : noted d₀ ps (p ∷ stack c top d) ≡ whole =
-    ap (λ (b : Bool). noted d₀ ps (keep b p (stack c top d))) (sym (eq-eqb _ _ (sym (N .degrees p l) ∙ one-there))) ∙ sym (noted-cons d₀ p ps _)
-    ∙ ap (λ (y : List ℕ). noted d₀ y (stack c top d)) (sym e) ∙ N .whole-is in
+    let w : queuedBy d₀ ps (p ∷ stack c top d) ≡ whole =
+    ap (λ (b : Bool). queuedBy d₀ ps (keep b p (stack c top d))) (sym (eq-eqb _ _ (sym (N .degrees p l) ∙ one-there))) ∙ sym (noted-cons d₀ p ps _)
+    ∙ ap (λ (y : List ℕ). queuedBy d₀ y (stack c top d)) (sym e) ∙ N .whole-is in
     omega (arith, noted-longer d₀ ps (p ∷ stack c top d), length-stack c top d, ap length w)
 
 -- all of them
 pub noting-end : (c : ℕ) (d₀ whole rest : List ℕ) (top : ℕ) (d : List ℕ) → rest ≡ [] → Noting c d₀ whole rest top d → Queued c whole top d₀ d
 noting-end c d₀ whole rest top d e N =
     record {
-      waiting = sym (noted-nil d₀ _) ∙ ap (λ (y : List ℕ). noted d₀ y (stack c top d)) (sym e) ∙ N .whole-is;
+      waiting = sym (noted-nil d₀ _) ∙ ap (λ (y : List ℕ). queuedBy d₀ y (stack c top d)) (sym e) ∙ N .whole-is;
       degrees = N .degrees;
       behind = N .behind;
     }
@@ -239,13 +239,13 @@ module _ (pos : ℕ → List ℕ) where
   xors-off v h hs t = ap xors (lying-off v h hs t)
 
   -- taking a hash away and putting it back in front leaves the xor of a cell
-  pub xors-without : (v h : ℕ) (hs : List ℕ) → 1 ≤ count h hs → xors (lying pos v (h ∷ without h hs)) ≡ xors (lying pos v hs)
-  xors-without v h [] k = absurd (not-suc-le-zero (rw count-nil at k))
+  pub xors-without : (v h : ℕ) (hs : List ℕ) → 1 ≤ occurs h hs → xors (lying pos v (h ∷ without h hs)) ≡ xors (lying pos v hs)
+  xors-without v h [] k = absurd (not-suc-le-zero (rw occurs-nil at k))
   xors-without v h (x ∷ hs) k =
       by-test (eqb h x)
       (λ e. rw (without-cons, e, eqb-true h x e) refl)
       (λ e.
-      let k' : 1 ≤ count h hs = rw (count-other h x hs (eqb-false h x e)) at k in
+      let k' : 1 ≤ occurs h hs = rw (occurs-other h x hs (eqb-false h x e)) at k in
       let i : xors (lying pos v (h ∷ without h hs)) ≡ xors (lying pos v hs) = xors-without v h hs k' in
       rw (without-cons, e)
       (by-test (among v (pos h))
@@ -293,10 +293,10 @@ module _ (pos : ℕ → List ℕ) where
         mixes = omega (arith, length-changed (bitXor h) (pos h) x, t .mixes);
         degree-at = λ v l. by-test (among v (pos h))
             (λ a.
-            let k : count v (pos h) ≡ 1 = omega (arith, among-once v (pos h) (ok .apart v), ap one a) in
+            let k : occurs v (pos h) ≡ 1 = omega (arith, among-once v (pos h) (ok .apart v), ap one a) in
             omega (arith, changed-at (plus 1) (pos h) d v (omega (arith, t .degrees)) k, t .degree-at v l, degree-le v hs, degree-cons pos v h hs, ap one a))
             (λ a.
-            let k : count v (pos h) ≡ 0 = omega (arith, among-once v (pos h) (ok .apart v), ap one a) in
+            let k : occurs v (pos h) ≡ 0 = omega (arith, among-once v (pos h) (ok .apart v), ap one a) in
             omega (arith, changed-other (plus 1) (pos h) d v k, t .degree-at v l, degree-cons pos v h hs, ap one a));
         xor-at = λ v l. by-test (among v (pos h))
             (λ a.
@@ -308,7 +308,7 @@ module _ (pos : ℕ → List ℕ) where
       }
 
   -- a hash taken away
-  pub tables-remove : (c : ℕ) (hs d x : List ℕ) (h : ℕ) → Placed c pos h → 1 ≤ count h hs → ((v : ℕ) → v < c → getD d v 0 < 2 ^ 32) → Tables pos c hs d x
+  pub tables-remove : (c : ℕ) (hs d x : List ℕ) (h : ℕ) → Placed c pos h → 1 ≤ occurs h hs → ((v : ℕ) → v < c → getD d v 0 < 2 ^ 32) → Tables pos c hs d x
       → Tables pos c (without h hs) (changed (plus 4294967295) (pos h) d) (changed (bitXor h) (pos h) x)
   tables-remove c hs d x h ok k small t =
       record {
@@ -316,10 +316,10 @@ module _ (pos : ℕ → List ℕ) where
         mixes = omega (arith, length-changed (bitXor h) (pos h) x, t .mixes);
         degree-at = λ v l. by-test (among v (pos h))
             (λ a.
-            let m : count v (pos h) ≡ 1 = omega (arith, among-once v (pos h) (ok .apart v), ap one a) in
+            let m : occurs v (pos h) ≡ 1 = omega (arith, among-once v (pos h) (ok .apart v), ap one a) in
             omega (arith, changed-at (plus 4294967295) (pos h) d v (omega (arith, t .degrees)) m, t .degree-at v l, small v l, degree-without pos v h hs k, ap one a))
             (λ a.
-            let m : count v (pos h) ≡ 0 = omega (arith, among-once v (pos h) (ok .apart v), ap one a) in
+            let m : occurs v (pos h) ≡ 0 = omega (arith, among-once v (pos h) (ok .apart v), ap one a) in
             omega (arith, changed-other (plus 4294967295) (pos h) d v m, t .degree-at v l, degree-without pos v h hs k, ap one a));
         xor-at = λ v l. by-test (among v (pos h))
             (λ a.
@@ -331,11 +331,11 @@ module _ (pos : ℕ → List ℕ) where
       }
 
   -- what is noted is what is queued
-  pub noted-queued : (c : ℕ) (hs d x : List ℕ) → Tables pos c hs d x → (ps : List ℕ) → Below c ps → (q : List ℕ) → noted d ps q ≡ queued pos hs ps q
+  pub noted-queued : (c : ℕ) (hs d x : List ℕ) → Tables pos c hs d x → (ps : List ℕ) → Below c ps → (q : List ℕ) → queuedBy d ps q ≡ queued pos hs ps q
   noted-queued c hs d x t [] b q = noted-nil d q ∙ sym (queued-nil pos hs q)
   noted-queued c hs d x t (p ∷ ps) b q =
-      noted-cons d p ps q ∙ ap (λ (n : ℕ). noted d ps (keep (eqb n 1) p q)) (t .degree-at p (below-head c p ps b))
-      ∙ noted-queued c hs d x t ps (λ v k. omega (arith, b v k, count-cons v p ps)) _ ∙ sym (queued-cons pos hs p ps q)
+      noted-cons d p ps q ∙ ap (λ (n : ℕ). queuedBy d ps (keep (eqb n 1) p q)) (t .degree-at p (below-head c p ps b))
+      ∙ noted-queued c hs d x t ps (λ v k. omega (arith, b v k, occurs-cons v p ps)) _ ∙ sym (queued-cons pos hs p ps q)
 
 -- ---- loading
 
@@ -366,9 +366,9 @@ rising-next p c h =
 pub rising-over : (p c : ℕ) → c ≤ p → rising p (c - p) ≡ []
 rising-over p c h = let k : c - p ≡ 0 = omega arith in rw k (rising-none p)
 
-pub noting-start : (c : ℕ) (d ps : List ℕ) (top : ℕ) → Noting c d (noted d ps (stack c top d)) ps top d
+pub noting-start : (c : ℕ) (d ps : List ℕ) (top : ℕ) → Noting c d (queuedBy d ps (stack c top d)) ps top d
 noting-start c d ps top = record { size = refl; whole-is = refl; degrees = λ v h. refl; behind = λ v h. refl }
 
-pub noting-ones : (c : ℕ) (d : List ℕ) → Noting c d (noted d (rising 0 c) []) (rising 0 (c - 0)) 0 d
+pub noting-ones : (c : ℕ) (d : List ℕ) → Noting c d (queuedBy d (rising 0 c) []) (rising 0 (c - 0)) 0 d
 noting-ones c d =
     record { size = refl; whole-is = rw (stack-none, sub-zero) refl; degrees = λ v h. refl; behind = λ v h. refl }

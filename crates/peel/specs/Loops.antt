@@ -2,14 +2,14 @@
 use mathlib.Core.Path.{_≡_}
 use mathlib.Core.List.{List}
 use Prim.Native.Nat.{ℕ, _≤_}
-use Rattle.laws.specs.Count.{count}
-use Rattle.fuse.specs.Positions.{Fits}
+use Rattle.laws.specs.Count.{occurs}
+use Rattle.fuse.specs.Positions.{FitsCells}
 use Rattle.peel.specs.declared.Graph.{Graph}
 
 -- the cells ps are below c
 abbrev pub Below : ℕ → List ℕ → Type 0
-Below c ps = (v : ℕ) → c ≤ v → count v ps ≡ 0
+Below c ps = (v : ℕ) → c ≤ v → occurs v ps ≡ 0
 
 -- sizes that belong together
-abbrev pub Whole : Graph → Type 0
-Whole g = Fits (g .segment) (g .count) (g .cells)
+abbrev pub GraphWhole : Graph → Type 0
+GraphWhole g = FitsCells (g .segment) (g .count) (g .cells)

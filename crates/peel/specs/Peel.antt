@@ -38,8 +38,8 @@ module _ (pos : ℕ → List ℕ) where
   queued hs (p ∷ ps) q = queued hs ps (keep (eqb (degree p hs) 1) p q)
 
   -- the start: all hashes, and the cells of degree 1 queued in rising order
-  abbrev pub start : ℕ → List ℕ → Attempt
-  start c hs = record { left = hs; queue = queued hs (rising 0 c) []; taken = []; peeled = [] }
+  abbrev pub begun : ℕ → List ℕ → Attempt
+  begun c hs = record { left = hs; queue = queued hs (rising 0 c) []; taken = []; peeled = [] }
 
   -- cell p is taken and skipped
   abbrev pub skip : ℕ → List ℕ → Attempt → Attempt
@@ -56,27 +56,27 @@ module _ (pos : ℕ → List ℕ) where
       }
 
   -- by the hashes that lie on the cell taken: exactly one is peeled
-  abbrev pub settle : List ℕ → ℕ → List ℕ → Attempt → Attempt
-  settle [] p q s = skip p q s
-  settle (h ∷ []) p q s = peel h p q s
-  settle (h ∷ k ∷ hs) p q s = skip p q s
+  abbrev pub takeCell : List ℕ → ℕ → List ℕ → Attempt → Attempt
+  takeCell [] p q s = skip p q s
+  takeCell (h ∷ []) p q s = peel h p q s
+  takeCell (h ∷ k ∷ hs) p q s = skip p q s
 
   -- the next cell of the queue: the last one that was put on it
   abbrev pub next : List ℕ → Attempt → Attempt
   next [] s = s
-  next (p ∷ q) s = settle (lying p (s .left)) p q s
+  next (p ∷ q) s = takeCell (lying p (s .left)) p q s
 
-  abbrev pub step : Attempt → Attempt
-  step s = next (s .queue) s
+  abbrev pub oneStep : Attempt → Attempt
+  oneStep s = next (s .queue) s
 
   -- n steps
   unfoldable pub run : ℕ → Attempt → Attempt
   run zero s = s
-  run (suc n) s = run n (step s)
+  run (suc n) s = run n (oneStep s)
 
   -- a whole attempt with c cells: each cell is queued at most once, so c steps empty the queue
   unfoldable pub attempt : ℕ → List ℕ → Attempt
-  attempt c hs = run c (start c hs)
+  attempt c hs = run c (begun c hs)
 
   -- one cell filled: the low byte of its hash xor the hash's four cells
   abbrev pub put : Peel → List ℕ → List ℕ
@@ -96,8 +96,8 @@ module _ (pos : ℕ → List ℕ) where
   peelsAll c hs = eqb (length (attempt c hs .left)) 0
 
   -- the cells of an attempt, filled from zero
-  unfoldable pub filled : ℕ → List ℕ → List ℕ
-  filled c hs = fill (attempt c hs .peeled) (replicate c 0)
+  unfoldable pub cellsAfter : ℕ → List ℕ → List ℕ
+  cellsAfter c hs = fill (attempt c hs .peeled) (replicate c 0)
 
 -- the filter's h of each hash
 abbrev pub mixed : (seed : ℕ) → List ℕ → List ℕ
@@ -105,12 +105,12 @@ mixed seed hashes = map (graphHash seed) hashes
 
 -- the attempt with this seed after so many steps
 abbrev pub afterSteps : (segment count seed : ℕ) → List ℕ → (steps : ℕ) → Attempt
-afterSteps segment count seed hashes steps = run (positionsOf segment count) steps (start (positionsOf segment count) (cellsIn segment count) (mixed seed hashes))
+afterSteps segment count seed hashes steps = run (positionsOf segment count) steps (begun (positionsOf segment count) (cellsIn segment count) (mixed seed hashes))
 
 -- whether the attempt with this seed peels every hash
 abbrev pub succeeds : (segment count seed : ℕ) → List ℕ → Bool
 succeeds segment count seed hashes = peelsAll (positionsOf segment count) (cellsIn segment count) (mixed seed hashes)
 
 -- the cells that it fills then
-abbrev pub cellsOf : (segment count seed : ℕ) → List ℕ → List ℕ
-cellsOf segment count seed hashes = filled (positionsOf segment count) (cellsIn segment count) (mixed seed hashes)
+abbrev pub cellsLaid : (segment count seed : ℕ) → List ℕ → List ℕ
+cellsLaid segment count seed hashes = cellsAfter (positionsOf segment count) (cellsIn segment count) (mixed seed hashes)

@@ -7,8 +7,8 @@ use Prim.Native.Nat.{ℕ, zero, suc, _+_, _%_, _^_, _<_, _≤_}
 use lib.Dec.{eqb}
 use lib.Bits.{bitXor}
 use lib.ListN.{length, getD, set}
-use Rattle.laws.specs.Count.{keep, count}
-use Rattle.peel.specs.Peel.{Peel, Attempt, lying, degree, succeeds, cellsOf}
+use Rattle.laws.specs.Count.{keep, occurs}
+use Rattle.peel.specs.Peel.{Peel, Attempt, lying, degree, succeeds, cellsLaid}
 use Rattle.peel.specs.Sound.{Placed, Sound}
 
 -- the xor of a list of hashes
@@ -36,9 +36,9 @@ abbrev pub plus : (by degree : ℕ) → ℕ
 plus by degree = (by + degree) % 2 ^ 32
 
 -- the queue after those of the cells that have 1 in d were put on it
-unfoldable pub noted : List ℕ → List ℕ → List ℕ → List ℕ
-noted d [] q = q
-noted d (p ∷ ps) q = noted d ps (keep (eqb (getD d p 0) 1) p q)
+unfoldable pub queuedBy : List ℕ → List ℕ → List ℕ → List ℕ
+queuedBy d [] q = q
+queuedBy d (p ∷ ps) q = queuedBy d ps (keep (eqb (getD d p 0) 1) p q)
 
 -- the queue is q, of r cells; degrees and peeled cells are as they were
 pub record Queued (c : ℕ) (q : List ℕ) (r : ℕ) (before after : List ℕ) : Type 0 where
@@ -54,8 +54,8 @@ pub record Tables (pos : ℕ → List ℕ) (c : ℕ) (hs d x : List ℕ) : Type 
   pub xor-at : (v : ℕ) → v < c → getD x v 0 ≡ xors (lying pos v hs)
 
 -- the workspace stands for the attempt s on the hashes hs: top cells queued, n hashes peeled
-pub record Ready (pos : ℕ → List ℕ) (c : ℕ) (hs : List ℕ) (s : Attempt) (wide narrow : List ℕ) (top n : ℕ) : Type 0 where
-  pub placed : (h : ℕ) → 1 ≤ count h hs → Placed c pos h
+pub record StandsFor (pos : ℕ → List ℕ) (c : ℕ) (hs : List ℕ) (s : Attempt) (wide narrow : List ℕ) (top n : ℕ) : Type 0 where
+  pub placed : (h : ℕ) → 1 ≤ occurs h hs → Placed c pos h
   pub sound : Sound pos c hs s
   pub tables : Tables pos c (s .left) narrow wide
   pub waiting : s .queue ≡ stack c top narrow
@@ -64,6 +64,6 @@ pub record Ready (pos : ℕ → List ℕ) (c : ℕ) (hs : List ℕ) (s : Attempt
   pub narrow-room : c + c + length hs ≤ length narrow
 
 -- an attempt's outcome: whether every hash was peeled; the cells filled if so, and else left as they were
-pub record Tried (segment count seed : ℕ) (hashes before after : List ℕ) (r : Bool) : Type 0 where
-  pub answer : r ≡ succeeds segment count seed hashes
-  pub cells : after ≡ cond (succeeds segment count seed hashes) (cellsOf segment count seed hashes) before
+pub record AttemptPost (segment count seed : ℕ) (hashes before after : List ℕ) (r : Bool) : Type 0 where
+  pub answer : r ≡ succeeds segment occurs seed hashes
+  pub cells : after ≡ cond (succeeds segment occurs seed hashes) (cellsLaid segment occurs seed hashes) before

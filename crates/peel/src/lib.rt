@@ -7,9 +7,9 @@ ghost use lib.Bits.{bitXor};
 ghost use lib.ListN.{length, getD};
 ghost use Rattle.laws.specs.Count.{keep, rising};
 ghost use Rattle.fuse.specs.Positions.{positionsOf};
-ghost use Rattle.peel.specs.Peel.{Attempt, step, start, attempt, fill, mixed};
-ghost use Rattle.peel.specs.Table.{stack, noted, changed, plus, peels, Queued, Tables, Ready, Tried};
-ghost use Rattle.peel.specs.Loops.{Below, Whole};
+ghost use Rattle.peel.specs.Peel.{Attempt, oneStep, begun, attempt, fill, mixed};
+ghost use Rattle.peel.specs.Table.{stack, queuedBy, changed, plus, peels, Queued, Tables, StandsFor, AttemptPost};
+ghost use Rattle.peel.specs.Loops.{Below, GraphWhole};
 use words::part;
 
 // What a hash adds to the degrees of its cells, which wrap: 1 where it joins them, and 2^32 − 1, which is one less, where it leaves them.
@@ -46,7 +46,7 @@ fn note(narrow: &mut [u32], c: usize, top: usize, p: usize) -> usize
 // The cells of degree 1 go on the empty queue, in rising order: each is written, and stays if its degree is 1.
 fn queue_ones(narrow: &mut [u32], c: usize) -> usize
     requires { ⌜ (c ≤ 2 ^ 32) × (c + c ≤ length (now narrow)) ⌝ }
-    ensures { λ r. ⌜ Queued c (noted (now (narrow .entry)) (rising 0 c) []) r (now (narrow .entry)) (now (narrow .exit)) ⌝ }
+    ensures { λ r. ⌜ Queued c (queuedBy (now (narrow .entry)) (rising 0 c) []) r (now (narrow .entry)) (now (narrow .exit)) ⌝ }
 {
     let mut top = 0;
     let mut p = 0;
@@ -62,8 +62,8 @@ fn queue_ones(narrow: &mut [u32], c: usize) -> usize
 
 // Those of the cells that have degree 1 go on the queue.
 fn queue_cells(narrow: &mut [u32], c: usize, top: usize, cells: &[usize]) -> usize
-    requires { ⌜ (c ≤ 2 ^ 32) × (c + c ≤ length (now narrow)) × Below c (now cells) × (length (noted (now narrow) (now cells) (stack c top (now narrow))) ≤ c) ⌝ }
-    ensures { λ r. ⌜ Queued c (noted (now (narrow .entry)) (now (cells .entry)) (stack c top (now (narrow .entry)))) r (now (narrow .entry)) (now (narrow .exit)) ⌝ }
+    requires { ⌜ (c ≤ 2 ^ 32) × (c + c ≤ length (now narrow)) × Below c (now cells) × (length (queuedBy (now narrow) (now cells) (stack c top (now narrow))) ≤ c) ⌝ }
+    ensures { λ r. ⌜ Queued c (queuedBy (now (narrow .entry)) (now (cells .entry)) (stack c top (now (narrow .entry)))) r (now (narrow .entry)) (now (narrow .exit)) ⌝ }
 {
     let mut t = top;
     let mut i = 0;
@@ -85,7 +85,7 @@ pub struct Graph {
 
 // Degrees and xors of the hashes, each mixed with the seed, over cleared tables.
 fn load(hashes: &[u64], wide: &mut [u64], narrow: &mut [u32], g: Graph)
-    requires { ⌜ Whole g × (length (now hashes) + 1 < 2 ^ 32) × Tables (positionsOf (g .segment) (g .count)) (g .cells) [] (now narrow) (now wide) ⌝ }
+    requires { ⌜ GraphWhole g × (length (now hashes) + 1 < 2 ^ 32) × Tables (positionsOf (g .segment) (g .count)) (g .cells) [] (now narrow) (now wide) ⌝ }
     ensures { λ r. ⌜ Tables (positionsOf (g .segment) (g .count)) (g .cells) (mixed (g .seed) (now (hashes .entry))) (now (narrow .exit)) (now (wide .exit)) ⌝ }
 {
     let mut i = hashes.len();
@@ -104,11 +104,11 @@ struct Progress {
 }
 
 // One step: the last cell of the queue is taken, and its one hash peeled if there is exactly one.
-fn step(wide: &mut [u64], narrow: &mut [u32], g: Graph, at: Progress) -> Progress
-    requires { ⌜ Whole g ⌝ }
-    requires { ⌜ ((hs : List ℕ) × (s : Attempt) × Ready (positionsOf (g .segment) (g .count)) (g .cells) hs s (now wide) (now narrow) (at .top) (at .peeled)) ⌝ }
-    ensures { λ r. ⌜ ((hs : List ℕ) (s : Attempt) → Ready (positionsOf (g .segment) (g .count)) (g .cells) hs s (now (wide .entry)) (now (narrow .entry)) (at .top) (at .peeled)
-        → Ready (positionsOf (g .segment) (g .count)) (g .cells) hs (step (positionsOf (g .segment) (g .count)) s) (now (wide .exit)) (now (narrow .exit)) (r .top) (r .peeled)) ⌝ }
+fn oneStep(wide: &mut [u64], narrow: &mut [u32], g: Graph, at: Progress) -> Progress
+    requires { ⌜ GraphWhole g ⌝ }
+    requires { ⌜ ((hs : List ℕ) × (s : Attempt) × StandsFor (positionsOf (g .segment) (g .count)) (g .cells) hs s (now wide) (now narrow) (at .top) (at .peeled)) ⌝ }
+    ensures { λ r. ⌜ ((hs : List ℕ) (s : Attempt) → StandsFor (positionsOf (g .segment) (g .count)) (g .cells) hs s (now (wide .entry)) (now (narrow .entry)) (at .top) (at .peeled)
+        → StandsFor (positionsOf (g .segment) (g .count)) (g .cells) hs (oneStep (positionsOf (g .segment) (g .count)) s) (now (wide .exit)) (now (narrow .exit)) (r .top) (r .peeled)) ⌝ }
 {
     let top = at.top;
     let n = at.peeled;
@@ -136,15 +136,15 @@ fn step(wide: &mut [u64], narrow: &mut [u32], g: Graph, at: Progress) -> Progres
 
 // All steps of an attempt: as many as there are cells. The number of hashes peeled.
 fn peel_all(wide: &mut [u64], narrow: &mut [u32], g: Graph, top: usize) -> usize
-    requires { ⌜ Whole g ⌝ }
-    requires { ⌜ ((hs : List ℕ) × Ready (positionsOf (g .segment) (g .count)) (g .cells) hs (start (positionsOf (g .segment) (g .count)) (g .cells) hs) (now wide) (now narrow) top 0) ⌝ }
-    ensures { λ r. ⌜ ((hs : List ℕ) → Ready (positionsOf (g .segment) (g .count)) (g .cells) hs (start (positionsOf (g .segment) (g .count)) (g .cells) hs) (now (wide .entry)) (now (narrow .entry)) top 0
-        → (t : ℕ) × Ready (positionsOf (g .segment) (g .count)) (g .cells) hs (attempt (positionsOf (g .segment) (g .count)) (g .cells) hs) (now (wide .exit)) (now (narrow .exit)) t r) ⌝ }
+    requires { ⌜ GraphWhole g ⌝ }
+    requires { ⌜ ((hs : List ℕ) × StandsFor (positionsOf (g .segment) (g .count)) (g .cells) hs (begun (positionsOf (g .segment) (g .count)) (g .cells) hs) (now wide) (now narrow) top 0) ⌝ }
+    ensures { λ r. ⌜ ((hs : List ℕ) → StandsFor (positionsOf (g .segment) (g .count)) (g .cells) hs (begun (positionsOf (g .segment) (g .count)) (g .cells) hs) (now (wide .entry)) (now (narrow .entry)) top 0
+        → (t : ℕ) × StandsFor (positionsOf (g .segment) (g .count)) (g .cells) hs (attempt (positionsOf (g .segment) (g .count)) (g .cells) hs) (now (wide .exit)) (now (narrow .exit)) t r) ⌝ }
 {
     let mut at = Progress { top, peeled: 0 };
     let mut turn = 0;
     while turn < g.cells {
-        at = step(wide, narrow, g, at);
+        at = oneStep(wide, narrow, g, at);
         turn += 1;
     }
     at.peeled
@@ -152,7 +152,7 @@ fn peel_all(wide: &mut [u64], narrow: &mut [u32], g: Graph, top: usize) -> usize
 
 // The cells filled in reverse order of peeling.
 fn fill(cells: &mut [u8], wide: &[u64], narrow: &[u32], g: Graph, n: usize)
-    requires { ⌜ Whole g × (length (now cells) ≡ g .cells) × (g .cells + n ≤ length (now wide)) × (g .cells + g .cells + n ≤ length (now narrow)) ⌝ }
+    requires { ⌜ GraphWhole g × (length (now cells) ≡ g .cells) × (g .cells + n ≤ length (now wide)) × (g .cells + g .cells + n ≤ length (now narrow)) ⌝ }
     requires { ⌜ ((i : ℕ) → i < n → getD (now narrow) (g .cells + g .cells + i) 0 < g .cells) ⌝ }
     ensures { λ r. ⌜ now (cells .exit) ≡ fill (positionsOf (g .segment) (g .count)) (peels (g .cells) n (now (wide .entry)) (now (narrow .entry))) (now (cells .entry)) ⌝ }
 {
@@ -169,8 +169,8 @@ fn fill(cells: &mut [u8], wide: &[u64], narrow: &[u32], g: Graph, n: usize)
 
 // All of an attempt up to the filling, over a workspace that may hold anything: the number of hashes peeled.
 fn peel_hashes(hashes: &[u64], wide: &mut [u64], narrow: &mut [u32], g: Graph) -> usize
-    requires { ⌜ Whole g × (length (now hashes) + 1 < 2 ^ 32) × (g .cells + length (now hashes) ≤ length (now wide)) × (g .cells + g .cells + length (now hashes) ≤ length (now narrow)) ⌝ }
-    ensures { λ r. ⌜ ((t : ℕ) × Ready (positionsOf (g .segment) (g .count)) (g .cells) (mixed (g .seed) (now (hashes .entry))) (attempt (positionsOf (g .segment) (g .count)) (g .cells) (mixed (g .seed) (now (hashes .entry)))) (now (wide .exit)) (now (narrow .exit)) t r) ⌝ }
+    requires { ⌜ GraphWhole g × (length (now hashes) + 1 < 2 ^ 32) × (g .cells + length (now hashes) ≤ length (now wide)) × (g .cells + g .cells + length (now hashes) ≤ length (now narrow)) ⌝ }
+    ensures { λ r. ⌜ ((t : ℕ) × StandsFor (positionsOf (g .segment) (g .count)) (g .cells) (mixed (g .seed) (now (hashes .entry))) (attempt (positionsOf (g .segment) (g .count)) (g .cells) (mixed (g .seed) (now (hashes .entry)))) (now (wide .exit)) (now (narrow .exit)) t r) ⌝ }
 {
     let c = g.cells;
     part::clear_u64(&mut wide[..c]);
@@ -188,8 +188,8 @@ pub fn attempt(
     cells: &mut [u8],
     g: Graph,
 ) -> bool
-    requires { ⌜ Whole g × (length (now hashes) + 1 < 2 ^ 32) × (g .cells + length (now hashes) ≤ length (now wide)) × (g .cells + g .cells + length (now hashes) ≤ length (now narrow)) × (length (now cells) ≡ g .cells) ⌝ }
-    ensures { λ r. ⌜ Tried (g .segment) (g .count) (g .seed) (now (hashes .entry)) (now (cells .entry)) (now (cells .exit)) r ⌝ }
+    requires { ⌜ GraphWhole g × (length (now hashes) + 1 < 2 ^ 32) × (g .cells + length (now hashes) ≤ length (now wide)) × (g .cells + g .cells + length (now hashes) ≤ length (now narrow)) × (length (now cells) ≡ g .cells) ⌝ }
+    ensures { λ r. ⌜ AttemptPost (g .segment) (g .count) (g .seed) (now (hashes .entry)) (now (cells .entry)) (now (cells .exit)) r ⌝ }
 {
     let n = peel_hashes(hashes, wide, narrow, g);
     if n < hashes.len() {

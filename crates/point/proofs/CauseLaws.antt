@@ -7,10 +7,12 @@ use mathlib.Core.Bool.{Bool, true, false, cond, _&&_, and-eq-true-iff, true≢fa
 use lib.Dec.{leb, lit<}
 use lib.ListN.{length}
 use borrow.Author.Tests.{leb-true}
-use Rattle.laws.specs.Refusals.{Cause, First, here, later, None, Numbered, orElse, first-given, first-only, first-positive, none-given, none-only}
+use Rattle.laws.specs.Refusals.{Cause, First, here, later, None, Numbered, orElse}
+use Rattle.laws.proofs.RefusalLaws.{first-given, first-only, first-positive, none-given, none-only}
 use Rattle.laws.specs.Refusals.Numbered.{numbered-none, numbered-more}
-use Rattle.laws.specs.RefusalLaws.{FirstOfTwo, two-given, two-only}
-use Rattle.laws.specs.RefusalLaws.FirstOfTwo.{by-first, by-second}
+use Rattle.laws.specs.Refusals.{FirstOfTwo}
+use Rattle.laws.proofs.RefusalLaws.{two-given, two-only}
+use Rattle.laws.specs.Refusals.FirstOfTwo.{by-first, by-second}
 use Rattle.layout.specs.Layout.{keysIn, bucketsIn, arenaIn, magicCauses, magicRefusal, dimensionCauses, dimensionRefusal, headerRefusal, pilotAt, directPast}
 use Rattle.records.specs.declared.DataLength.{DataLength}
 use Rattle.records.specs.declared.DataLength.the-variants.{Of}

@@ -8,9 +8,10 @@ use mathlib.Core.Bool.{false}
 use lib.ListN.{length, drop, take, length-drop}
 use lib.Seq.{take-length}
 use borrow.Author.Tests.{ltb-false}
-use Rattle.laws.specs.Each.{each-map}
-use Rattle.laws.specs.Pigeonhole.{Hit, onto}
-use Rattle.words.proofs.Laws.{AllBytes}
+use Rattle.laws.proofs.EachLaws.{each-map}
+use Rattle.laws.specs.Pigeonhole.{Hit}
+use Rattle.laws.proofs.PigeonholeLaws.{onto}
+use Rattle.words.specs.Field.{AllBytes}
 use Rattle.layout.specs.Layout.{keysIn, arenaIn, pilotOf, directPast, slotOf, slotPlace, recordOffset}
 use Rattle.layout.proofs.HeaderLaws.{headed, slot-low}
 use Rattle.records.specs.declared.DataLength.the-variants.{Of}
@@ -25,7 +26,7 @@ use Rattle.records.proofs.TableLaws.{table-fits}
 use Rattle.records.proofs.WriteLaws.{table-unique}
 use Rattle.point.specs.declared.Validated.the-variants.{Accepted}
 use Rattle.point.specs.Validate.{slotRefusal, validateOf}
-use Rattle.point.specs.Table.{tableOf, keyPlace, keyOf, keySlot, HoldsTable, Belongs, OneBelow}
+use Rattle.point.specs.Table.{tableOf, keyPlace, bodyKey, keySlot, HoldsTable, Belongs, OneBelow}
 use Rattle.point.proofs.ValidateLaws.{passed, checked-near, slotted}
 
 -- ---- the table
@@ -88,7 +89,7 @@ module _ (body : List ℕ) (size : ℕ) (ok : validateOf body size ≡ Accepted)
   pub hash-slot : (h : ℕ) → slotOf body h < keysIn body
   hash-slot h = slot-low body h (headed body (passed body size ok .checked .header)) (hash-near h)
 
-  pub key-belongs : (i : ℕ) → i < keysIn body → Belongs body (keySlot body (keyOf body i)) i
+  pub key-belongs : (i : ℕ) → i < keysIn body → Belongs body (keySlot body (bodyKey body i)) i
   key-belongs i l =
       let s = slotted body (keyPlace body i) (key-entered i l .rules .slot) in
       let u = key-up i in
@@ -96,13 +97,13 @@ module _ (body : List ℕ) (size : ℕ) (ok : validateOf body size ≡ Accepted)
       record { slot = refl; place = omega arith; fingerprint = s .fingerprint }
 
   -- no two keys have one slot
-  pub slots-apart : (i j : ℕ) → i < keysIn body → j < keysIn body → keySlot body (keyOf body i) ≡ keySlot body (keyOf body j) → i ≡ j
+  pub slots-apart : (i j : ℕ) → i < keysIn body → j < keysIn body → keySlot body (bodyKey body i) ≡ keySlot body (bodyKey body j) → i ≡ j
   slots-apart i j li lj e =
       key-apart i j
       (sym (key-belongs i li .place) ∙ ap (λ (s : ℕ). arenaIn body + recordOffset body (slotPlace body s)) e ∙ key-belongs j lj .place)
 
-  pub slot-hit : (s : ℕ) → s < keysIn body → Hit (keysIn body) (λ i. keySlot body (keyOf body i)) s
-  slot-hit s l = onto (keysIn body) (λ i. keySlot body (keyOf body i)) (record { below = λ i m. hash-slot _; apart = slots-apart }) s l
+  pub slot-hit : (s : ℕ) → s < keysIn body → Hit (keysIn body) (λ i. keySlot body (bodyKey body i)) s
+  slot-hit s l = onto (keysIn body) (λ i. keySlot body (bodyKey body i)) (record { below = λ i m. hash-slot _; apart = slots-apart }) s l
 
   -- THEOREM: each slot belongs to exactly one key
   pub slot-owner : (s : ℕ) → s < keysIn body → OneBelow (keysIn body) (Belongs body s)
@@ -118,4 +119,4 @@ module _ (body : List ℕ) (size : ℕ) (ok : validateOf body size ≡ Accepted)
   -- THEOREM: and to each key exactly one slot
   pub owner-slot : (i : ℕ) → i < keysIn body → OneBelow (keysIn body) (λ s. Belongs body s i)
   owner-slot i l =
-      record { number = keySlot body (keyOf body i); low = hash-slot _; has = key-belongs i l; only = λ s m b. sym (b .slot) }
+      record { number = keySlot body (bodyKey body i); low = hash-slot _; has = key-belongs i l; only = λ s m b. sym (b .slot) }

@@ -8,7 +8,7 @@ use mathlib.Core.Option.{Option, none, some}
 use mathlib.Core.Logic.{⊎-elim}
 use lib.ListN.{length, take, drop, take-append-drop}
 use lib.Seq.{length-take-le}
-use Rattle.words.proofs.Laws.{AllBytes}
+use Rattle.words.specs.Field.{AllBytes}
 use Rattle.mixing.specs.Mixing.{hashOf}
 use Rattle.layout.specs.Layout.{headerRefusal, seedIn, keysIn, bucketsIn, arenaIn}
 use Rattle.layout.proofs.HeaderLaws.{headed}
@@ -34,12 +34,12 @@ use Rattle.point.specs.declared.Answer.the-variants.{Found, Nothing, Ref
 use Rattle.point.specs.Validate.{pilotsRefusal, slotRefusal, arenaRefusal, validateOf}
 use Rattle.point.specs.Get.{locateOf, openRecordOf, openOf, answerOf, getOf, partOf, valueOf, startOf, ValuePost}
 use Rattle.point.specs.Lookup.{Newest, NoneWithin}
-use Rattle.point.specs.Table.{tableOf, keyPlace, keyOf, keySlot, Belongs, answerTo}
+use Rattle.point.specs.Table.{tableOf, keyPlace, bodyKey, keySlot, Belongs, answerTo}
 use Rattle.point.proofs.GetLaws.{get-open, get-nothing, get-limit}
 use Rattle.point.proofs.ValidateLaws.{accepted, slot-right}
 use Rattle.point.proofs.SlotLaws.{key-entered, holds-table}
 use Rattle.point.proofs.LookupLaws.{lookup-some, lookup-none, lookup-finds, lookup-misses}
-use Rattle.point.proofs.OpenLaws.{versionsOf, Opens, Missing, opening-is}
+use Rattle.point.proofs.OpenLaws.{versionsOf, KeyOpened, KeyMissing, opening-is}
 
 -- ---- get
 
@@ -50,7 +50,7 @@ answer-inside size none h = refl
 answer-inside size (some r) h = rw (h r refl .inside)
 
 module _ (body : List ℕ) (size : ℕ) (ok : validateOf body size ≡ Accepted) (all : AllBytes body) (key : List ℕ) (limit : Limit) where
-  get-opened : Opens body key → getOf body size key limit ≡ answerTo (lookup (tableOf body) key limit)
+  get-opened : KeyOpened body key → getOf body size key limit ≡ answerTo (lookup (tableOf body) key limit)
   unfolding lookup
   get-opened o =
       let v = versionsOf body (o .index) in
@@ -63,7 +63,7 @@ module _ (body : List ℕ) (size : ℕ) (ok : validateOf body size ≡ Accepted)
       ∙ answer-inside size (greatest limit (versionsFrom body (v .first) (v .count))) (λ r. greatest-has {P = RecordRules (Of size)} limit (versionsFrom body (v .first) (v .count)) r u)
       ∙ ap (λ (rs : List Record). answerTo (greatest limit rs)) (sym (o .records))
 
-  get-missing : Missing body key → getOf body size key limit ≡ answerTo (lookup (tableOf body) key limit)
+  get-missing : KeyMissing body key → getOf body size key limit ≡ answerTo (lookup (tableOf body) key limit)
   unfolding lookup greatest
   get-missing m =
       sym (get-limit body size key limit (limitOf limit) all refl)
@@ -116,16 +116,16 @@ value-is-part {body} {bytes} {key} {limit} {lent} P ok all =
 -- ---- the converse
 
 -- a slot that is the key's passes 26
-slot-passes : (body : List ℕ) (i : ℕ) → Belongs body (keySlot body (keyOf body i)) i → slotRefusal body (keyPlace body i) ≡ 0
+slot-passes : (body : List ℕ) (i : ℕ) → Belongs body (keySlot body (bodyKey body i)) i → slotRefusal body (keyPlace body i) ≡ 0
 unfolding slotRefusal
 slot-passes body i b =
     let p = b .place in
-    slot-right body (hashOf (seedIn body) (keyOf body i)) (keyPlace body i) _ _ _ refl refl refl (omega arith) _ _ refl refl (b .fingerprint)
+    slot-right body (hashOf (seedIn body) (bodyKey body i)) (keyPlace body i) _ _ _ refl refl refl (omega arith) _ _ refl refl (b .fingerprint)
 
 -- THEOREM: a body that passes 20 to 22, whose arena is the bytes of a table that keeps the rules, and whose keys have their slots, is accepted
 pub accepts : (body : List ℕ) (size : ℕ) (t : List Entry) → headerRefusal body ≡ 0 → pilotsRefusal body (keysIn body) 0 (bucketsIn body) ≡ 0
     → length t ≡ keysIn body → drop (arenaIn body) body ≡ tableBytes t → TableRules (Of size) t
-    → ((i : ℕ) → i < keysIn body → Belongs body (keySlot body (keyOf body i)) i) → validateOf body size ≡ Accepted
+    → ((i : ℕ) → i < keysIn body → Belongs body (keySlot body (bodyKey body i)) i) → validateOf body size ≡ Accepted
 unfolding keyPlace
 accepts body size t h pl n e u slots =
     let d = headed body h in

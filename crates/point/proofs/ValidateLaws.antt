@@ -9,7 +9,7 @@ use mathlib.Core.Bool.{true, false, not}
 use mathlib.Core.Logic.{⊎-elim}
 use lib.Dec.{eqb}
 use borrow.Author.Tests.{eqb-true, not-false, eq-eqb, ne-eqb}
-use Rattle.laws.specs.RefusalLaws.{orElse-stop, orElse-zero}
+use Rattle.laws.proofs.RefusalLaws.{orElse-stop, orElse-zero}
 use Rattle.words.specs.Field.{le}
 use Rattle.mixing.specs.Mixing.{hashOf, fingerprintOf, bucketOf, bucketOf-lt}
 use Rattle.layout.specs.Layout.{headerRefusal, seedIn, keysIn, bucketsIn, arenaIn, pilotAt, pilotOf, directPast, slotOf, slotPlace, recordOffset, fingerprintWide}
@@ -133,17 +133,17 @@ verdict-accepted zero e = refl
 verdict-accepted (suc r) e = absurd (let z : _≡_ {A = ℕ} 0 1 = cc in omega arith)
 
 -- what an accepted body passed
-pub record Passed (body : List ℕ) (size : ℕ) : Type 0 where
+pub record ValidationPassed (body : List ℕ) (size : ℕ) : Type 0 where
   pub checked : Checked body
   pub arena : arenaRefusal body size ≡ 0
 
-pub passed : (body : List ℕ) (size : ℕ) → validateOf body size ≡ Accepted → Passed body size
+pub passed : (body : List ℕ) (size : ℕ) → validateOf body size ≡ Accepted → ValidationPassed body size
 unfolding validateOf validationRefusal
 passed body size e =
     let s = orElse-zero (headerRefusal body) _ (verdict-accepted _ e) in
     let t = orElse-zero (pilotsRefusal body (keysIn body) 0 (bucketsIn body)) _ (s .1) in
     record { checked = record { header = s .0; pilots = t .0 }; arena = t .1 }
 
-pub accepted : (body : List ℕ) (size : ℕ) → Passed body size → validateOf body size ≡ Accepted
+pub accepted : (body : List ℕ) (size : ℕ) → ValidationPassed body size → validateOf body size ≡ Accepted
 unfolding validateOf validationRefusal
 accepted body size p = rw (p .checked .header, p .checked .pilots, p .arena)

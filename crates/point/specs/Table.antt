@@ -22,8 +22,8 @@ tableOf body = entriesFrom body (arenaIn body) (keysIn body)
 unfoldable pub keyPlace : List ℕ → ℕ → ℕ
 keyPlace body i = entryPlace body (arenaIn body) i
 
-abbrev pub keyOf : List ℕ → ℕ → List ℕ
-keyOf body i = keyAt body (keyPlace body i)
+abbrev pub bodyKey : List ℕ → ℕ → List ℕ
+bodyKey body i = keyAt body (keyPlace body i)
 
 -- the slot of a key
 abbrev pub keySlot : List ℕ → List ℕ → ℕ
@@ -40,9 +40,9 @@ pub record HoldsTable (body : List ℕ) (size : ℕ) (table : List Entry) : Type
 
 -- slot s belongs to the i-th key: the key's hash leads to it, it names the key's place, and it holds the key's fingerprint
 pub record Belongs (body : List ℕ) (s i : ℕ) : Type 0 where
-  pub slot : keySlot body (keyOf body i) ≡ s
+  pub slot : keySlot body (bodyKey body i) ≡ s
   pub place : arenaIn body + recordOffset body (slotPlace body s) ≡ keyPlace body i
-  pub fingerprint : fingerprintWide body (slotPlace body s) ≡ fingerprintOf (hashOf (seedIn body) (keyOf body i))
+  pub fingerprint : fingerprintWide body (slotPlace body s) ≡ fingerprintOf (hashOf (seedIn body) (bodyKey body i))
 
 -- there is exactly one number below n with a property
 pub record OneBelow (n : ℕ) (P : ℕ → Type 0) : Type 0 where

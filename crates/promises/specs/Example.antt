@@ -9,10 +9,12 @@ use mathlib.Core.List.{List, [], _∷_, _++_, flatMap}
 use mathlib.Core.Option.{none, some, bind, Option·map}
 use lib.ListN.{length, take}
 use Rattle.laws.specs.Each.{Each, each-none, each-more}
-use Rattle.laws.specs.Steps.{steps, anyBelow, greatest, least-hit, least-miss}
+use Rattle.laws.specs.Steps.{steps, anyBelow, maximum}
+use Rattle.laws.proofs.StepsLaws.{least-hit, least-miss}
 use Rattle.words.specs.Field.{spelled, le, bytesOf}
 use Rattle.words.specs.Part.{orderOf}
-use Rattle.words.proofs.Laws.{AllBytes, bytes-tested}
+use Rattle.words.proofs.Laws.{bytes-tested}
+use Rattle.words.specs.Field.{AllBytes}
 use Rattle.mixing.specs.Mixing.{seedOf}
 use Rattle.mixing.specs.Example.{hashes, positions, fingerprints}
 use Rattle.records.specs.declared.DataLength.the-variants.{Untested}
@@ -25,8 +27,8 @@ use Rattle.records.specs.Tables.{TableRules, TableInData}
 use Rattle.records.specs.Walk.{walkFrom}
 use Rattle.records.proofs.Theorems.{read-back}
 use Rattle.builder.specs.declared.PointBuilder.{PointBuilder}
-use Rattle.builder.specs.Taken.{KeyBytes, Taken, TakenInto}
-use Rattle.construct.specs.Construct.{bucketsOf, tries, attempts, members, group, size, alike, met, twins, twinsAt, anyTwins, settle, spot, seat, Placing, noted, placeGroup, placeOf, placeSize, placeDown, largest, blank, attemptFrom, attemptOf, constructOf}
+use Rattle.builder.specs.Taken.{KeyBytes, TakenList, TakenInto}
+use Rattle.construct.specs.Construct.{bucketsOf, tries, attempts, members, group, size, alike, met, twins, twinsAt, anyTwins, settle, spot, seat, Placing, pilotNoted, placeGroup, placeOf, placeSize, placeDown, largest, blank, attemptFrom, attemptOf, constructOf}
 use Rattle.construct.specs.Keys.{hashesOf, attemptHashes}
 use Rattle.construct.proofs.Figures.{one-bucket}
 use Rattle.point.specs.Get.{getOf}
@@ -92,7 +94,7 @@ unfolding exampleTable tableBytes entryBytes versionsBytes versionBytes bytesOf
 example-taken buffer room = list-taken exampleTable example-rules key-bytes (omega arith) buffer room
 
 -- THEOREM: and where it is taken, the used bytes are its arena
-pub example-used : {s : PointBuilder} {buffer : List ℕ} → Taken s buffer exampleTable → take (s .used) buffer ≡ exampleArena
+pub example-used : {s : PointBuilder} {buffer : List ℕ} → TakenList s buffer exampleTable → take (s .used) buffer ≡ exampleArena
 unfolding exampleArena
 example-used t = taken-kept t .3
 
@@ -133,14 +135,14 @@ abbrev pub examplePlacing : Placing
 examplePlacing = record { pilots = 2 ∷ []; slots = 1 ∷ 3 ∷ 2 ∷ [] }
 
 placed-group : placeGroup exampleHashes 0 (blank exampleHashes) ≡ some examplePlacing
-unfolding placeGroup size blank bucketsOf noted tries
+unfolding placeGroup size blank bucketsOf pilotNoted tries
 placed-group =
     rw the-group
-    (ap (Option·map (noted 0 0 (blank exampleHashes)))
+    (ap (Option·map (pilotNoted 0 0 (blank exampleHashes)))
     (least-miss _ 99999 0 pilot-0 ∙ least-miss _ 99998 1 pilot-1 ∙ least-hit _ 99997 2 (1 ∷ 3 ∷ 2 ∷ []) pilot-2))
 
 attempt-placed : attemptOf exampleHashes ≡ some examplePlacing
-unfolding attemptOf attemptFrom largest greatest size placeDown placeSize placeOf steps bind bucketsOf
+unfolding attemptOf attemptFrom largest maximum size placeDown placeSize placeOf steps bind bucketsOf
 attempt-placed = simp (no-twins, the-group, placed-group)
 
 -- THEOREM: attempt 0 is taken, with pilot 2

@@ -14,7 +14,7 @@ use Rattle.finish.specs.Body.{arenaStart}
 use Rattle.finish.specs.Finish.{keysOf, finishOf}
 use Rattle.fuse.specs.Positions.{firstCell, cellOf, positionsOf}
 use Rattle.sizing.specs.Table.{firsts, segments}
-use Rattle.sizing.specs.Sizing.{rule, greatest, exponentOf, segmentOf, upTo, segmentsOf, cellsOf}
+use Rattle.sizing.specs.Sizing.{rule, exponentUpTo, exponentOf, segmentOf, upTo, segmentsOf, cellsOf}
 use Rattle.promises.specs.Example.{exampleBody, example-keys, example-fits}
 
 -- where the record of a body's i-th key begins, counted from the arena start
@@ -47,7 +47,7 @@ pub record Figures : Type 0 where
 
 -- THEOREM: all of them hold
 pub figures : Figures
-unfolding bucketsOf arenaStart exampleBody le spelled keyPlace entryPlace filterSize segmentOf segmentsOf cellsOf exponentOf greatest rule upTo firsts segments positionsOf cellOf firstCell
+unfolding bucketsOf arenaStart exampleBody le spelled keyPlace entryPlace filterSize segmentOf segmentsOf cellsOf exponentOf exponentUpTo rule upTo firsts segments positionsOf cellOf firstCell
 figures = record {
   P1 = refl;
   P2 = refl;

@@ -7,9 +7,9 @@ use mathlib.Core.List.{List, [], _∷_, map}
 use borrow.Author.Tests.{le-ltb}
 use lib.ListN.{length, take, getD, length-map, List·getD-append}
 use Rattle.laws.specs.Refusals.{firstOf}
-use Rattle.laws.specs.RefusalLaws.{orElse-zero}
-use Rattle.laws.specs.Count.{count}
-use Rattle.laws.specs.Lists.{map-at}
+use Rattle.laws.proofs.RefusalLaws.{orElse-zero}
+use Rattle.laws.specs.Count.{occurs}
+use Rattle.laws.proofs.Lists.{map-at}
 use Rattle.words.specs.Field.{splice}
 use Rattle.words.proofs.PartLaws.{splice-front}
 use Rattle.mixing.specs.Mixing.{mixOf}
@@ -54,14 +54,14 @@ pub record Stands (hashes : List ℕ) (r : Built) (out : List ℕ) : Type 0 wher
   pub values : builtValues r ≡ length (filterBytes r out) ∷ []
   pub read : readOf (filterBytes r out) ≡ asRead r
   pub sized : (s : Sizes) → r ≡ Fuse s → SizedFor hashes s
-  pub present : (hash : ℕ) → 1 ≤ count hash hashes → askNumber (askOf (filterBytes r out) hash) ≡ 1
+  pub present : (hash : ℕ) → 1 ≤ occurs hash hashes → askNumber (askOf (filterBytes r out) hash) ≡ 1
 
 sized-for : (hashes : List ℕ) (s : Sizes) → FilterOf hashes s → SizedFor hashes s
 unfolding sizesOf
 sized-for hashes s F = record {
   keys = ap (λ (x : Sizes). x .keys) (F .sizes);
   segment = ap (λ (x : Sizes). x .segment) (F .sizes);
-  count = ap (λ (x : Sizes). x .count) (F .sizes);
+  occurs = ap (λ (x : Sizes). x .count) (F .sizes);
   enough = F .enough;
 }
 
@@ -122,7 +122,7 @@ module _ {hashes wide narrow out answer hashes' wide' narrow' out' answer' : Lis
       (ap (λ (l : List ℕ). getD l 0 0) (P .answer-after ∙ own _ _) ∙ length-front (buildCalled hashes wide narrow out) answer taken)
 
   -- THEOREM: where kiban_filter_build returns 0, kiban_filter_ask on the first answer[0] bytes returns 1 for each of the hashes
-  pub call-present : (hash : ℕ) → 1 ≤ count hash hashes → filterAskOf (take (getD answer' 0 0) out') hash ≡ 1
+  pub call-present : (hash : ℕ) → 1 ≤ occurs hash hashes → filterAskOf (take (getD answer' 0 0) out') hash ≡ 1
   call-present hash k = ap (λ (bytes : List ℕ). filterAskOf bytes hash) bytes-front ∙ stands .present hash k
 
   module _ {asked answers : List ℕ} {r : ℕ} {answers' : List ℕ} (A : FilterAskAllCall (take (getD answer' 0 0) out') asked answers r answers')
@@ -140,7 +140,7 @@ module _ {hashes wide narrow out answer hashes' wide' narrow' out' answer' : Lis
     call-asked = A .number ∙ rw (roomy, each .0)
 
     -- THEOREM: and answers 1 at the place of each of the hashes
-    pub call-all-present : (i : ℕ) → i < length asked → 1 ≤ count (getD asked i 0) hashes → getD answers' i 0 ≡ 1
+    pub call-all-present : (i : ℕ) → i < length asked → 1 ≤ occurs (getD asked i 0) hashes → getD answers' i 0 ≡ 1
     unfolding leftBy
     call-all-present i l k =
         let values = map (filterAskOf (take (getD answer' 0 0) out')) asked in
@@ -167,7 +167,7 @@ module _ (hashes : List ℕ) (some : 1 ≤ length hashes) (few : length hashes �
 
   -- THEOREM: the queue holds at most one entry for each cell over a whole attempt: after any number of steps a cell was taken, or waits, once at
   -- most
-  pub cell-queued-once : (steps cell : ℕ) → count cell (attemptAfter hashes i steps .taken) + count cell (attemptAfter hashes i steps .queue) ≤ 1
+  pub cell-queued-once : (steps cell : ℕ) → occurs cell (attemptAfter hashes i steps .taken) + occurs cell (attemptAfter hashes i steps .queue) ≤ 1
   cell-queued-once = peeling.cell-queued-once (sizesOf (length hashes) .segment) (sizesOf (length hashes) .count) (mixOf i) sizes-usable (sorted hashes)
 
   -- THEOREM: so a place for each cell is enough for all that were ever queued

@@ -11,7 +11,7 @@ use lib.Dec.{eqb}
 use lib.ListN.{length, take, length-take}
 use lib.Seq.{take-all, take-at}
 use Rattle.words.specs.Field.{splice}
-use Rattle.words.proofs.Laws.{AllBytes}
+use Rattle.words.specs.Field.{AllBytes}
 use Rattle.records.specs.declared.DataLength.the-variants.{Untested}
 use Rattle.records.specs.declared.Limit.{Limit}
 use Rattle.records.specs.Model.{Entry, tableBytes, lookup}
@@ -25,7 +25,7 @@ use Rattle.point.specs.Validate.{validateOf}
 use Rattle.point.specs.Get.{getOf, partOf, startOf, ValuePost}
 use Rattle.point.specs.Table.{tableOf, answerTo}
 use Rattle.builder.specs.declared.PointBuilder.{PointBuilder}
-use Rattle.builder.specs.Taken.{Taken}
+use Rattle.builder.specs.Taken.{TakenList}
 use Rattle.builder.proofs.TakenTheorems.{taken-facts}
 use Rattle.builder.proofs.TakenBuffer.{taken-bytes}
 use Rattle.finish.specs.declared.Finished.{Finished}
@@ -69,7 +69,7 @@ table-again arena list all e rules whole =
     r .only list (table-fits Untested list rules) (sym e ∙ sym (take-all (walked arena .end - 0) arena (omega arith)))
 
 module _ {s : PointBuilder} {buffer : List ℕ} {list : List Entry} {o w u o' w' u' : List ℕ} {k : ℕ}
-    (t : Taken s buffer list) (F : ListFinished s buffer o w u k o' w' u') where
+    (t : TakenList s buffer list) (F : ListFinished s buffer o w u k o' w' u') where
   body : take k o' ≡ bodyOf (take (s .used) buffer) (keysOf (take (s .used) buffer))
   body = output-body (taken-bytes t) F
 
@@ -110,7 +110,7 @@ module _ {s : PointBuilder} {buffer : List ℕ} {list : List Entry} {o w u o' w'
       (subst AllBytes (sym body) (finish-bytes (take (s .used) buffer) (length o) (length w) (length u) k (taken-bytes t) answered)))
 
 -- THEOREM: a taken list with a record passes finish's length checks where output and workspace are long enough
-pub lengths-pass : {s : PointBuilder} {buffer : List ℕ} {list : List Entry} {out wide narrow : ℕ} → Taken s buffer list → 0 < length list
+pub lengths-pass : {s : PointBuilder} {buffer : List ℕ} {list : List Entry} {out wide narrow : ℕ} → TakenList s buffer list → 0 < length list
     → 2 * length list ≤ wide → 8 * length list + 8 ≤ narrow → arenaStart (length list) + s .used ≤ out
     → (keysOf (take (s .used) buffer) ≡ length list) × (lengthsRefusal (take (s .used) buffer) out wide narrow ≡ 0)
 unfolding walked
@@ -128,7 +128,7 @@ lengths-pass {s} {buffer} {list} {out} {wide} {narrow} t any w u room =
 
 -- THEOREM: so it is finished, or no attempt places its keys (10)
 pub taken-answered : {s : PointBuilder} {buffer : List ℕ} {list : List Entry} {o w u o' w' u' : List ℕ} {r : Finished}
-    → Taken s buffer list → FinishPost (take (s .used) buffer) o w u r o' w' u' → 0 < length list
+    → TakenList s buffer list → FinishPost (take (s .used) buffer) o w u r o' w' u' → 0 < length list
     → 2 * length list ≤ length w → 8 * length list + 8 ≤ length u → arenaStart (length list) + s .used ≤ length o
     → (finishedNumber r ≡ 0) ⊎ (finishedNumber r ≡ 10)
 taken-answered {s} {buffer} {list} {o} {w} {u} t P any wide narrow room =

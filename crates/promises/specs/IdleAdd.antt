@@ -12,7 +12,7 @@ use Rattle.builder.specs.declared.PointBuilder.{PointBuilder}
 use Rattle.builder.specs.declared.Added.{Added}
 use Rattle.builder.specs.declared.Added.the-variants.{Taken, Refused}
 use Rattle.builder.specs.State.{emptyBuilder, fits, lastOf}
-use Rattle.builder.specs.Add.{rises, newCauses, addCauses, addRefusal, appended, addOf, bufferAfterAdd, AddPost}
+use Rattle.builder.specs.Add.{risesAfter, newCauses, addCauses, addRefusal, appended, addOf, bufferAfterAdd, AddPost}
 
 -- 30 bytes lent, all zero
 abbrev pub zeros : List ℕ
@@ -28,13 +28,13 @@ firstState = record { used = 30; keys = 1; head = 0 }
 
 -- THEOREM: the answer is that state and the place 22
 pub first-answer : {r : Added} {after : List ℕ} → FirstAdd r after → r ≡ Taken firstState 22
-unfolding addOf addRefusal addCauses newCauses rises fits lastOf
+unfolding addOf addRefusal addCauses newCauses risesAfter fits lastOf
 first-answer P = P .answer
 
 -- THEOREM: the buffer is the key's entry, byte for byte
 pub first-buffer : {r : Added} {after : List ℕ} → FirstAdd r after
     → after ≡ 1 ∷ 0 ∷ 0 ∷ 0 ∷ 1 ∷ 0 ∷ 0 ∷ 0 ∷ 65 ∷ 9 ∷ 0 ∷ 0 ∷ 0 ∷ 0 ∷ 0 ∷ 0 ∷ 0 ∷ 1 ∷ 8 ∷ 0 ∷ 0 ∷ 0 ∷ 0 ∷ 0 ∷ 0 ∷ 0 ∷ 0 ∷ 0 ∷ 0 ∷ 0 ∷ []
-unfolding bufferAfterAdd addRefusal addCauses newCauses rises fits lastOf appended splice entryBytes versionsBytes versionBytes bytesOf
+unfolding bufferAfterAdd addRefusal addCauses newCauses risesAfter fits lastOf appended splice entryBytes versionsBytes versionBytes bytesOf
 first-buffer P = P .buffer
 
 -- the keys of an answered state

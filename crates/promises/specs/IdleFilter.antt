@@ -8,9 +8,9 @@ use mathlib.Core.List.{List, [], _∷_}
 use borrow.Author.Tests.{eqb-true, eqb-false, eq-eqb}
 use lib.Dec.{eqb}
 use lib.ListN.{length}
-use Rattle.laws.specs.Cases.{by-test}
-use Rattle.laws.specs.Count.{one, count, among, without, rising}
-use Rattle.laws.specs.CountLaws.{count-nil, count-cons, count-here, among-once, without-cons, rising-has}
+use Rattle.laws.proofs.Cases.{by-test}
+use Rattle.laws.specs.Count.{one, occurs, among, without, rising}
+use Rattle.laws.proofs.CountLaws.{occurs-nil, occurs-cons, occurs-here, among-once, without-cons, rising-has}
 use Rattle.mixing.specs.Mixing.{mixOf}
 use Rattle.fuse.specs.Asking.{graphHash}
 use Rattle.fuse.specs.Positions.{Usable, cellsIn, cellOf, positionsOf}
@@ -19,7 +19,7 @@ use Rattle.fuse.proofs.PositionLaws.{cell-below}
 use Rattle.sizing.specs.Sizing.{segmentOf, segmentsOf, sizesOf}
 use Rattle.sizing.proofs.SizedLaws.{usable}
 use Rattle.sort.specs.Sort.{insert, sorted}
-use Rattle.peel.specs.Peel.{Attempt, lying, degree, queued, start, settle, next, step, run, attempt, peelsAll, succeeds}
+use Rattle.peel.specs.Peel.{Attempt, lying, degree, queued, begun, takeCell, next, oneStep, run, attempt, peelsAll, succeeds}
 use Rattle.peel.proofs.PeelLaws.{lying-nil, lying-cons, degree-nil, degree-cons, queued-yes, queued-no}
 use Rattle.peel.proofs.PlaceLaws.{positions-placed}
 use Rattle.filter.specs.declared.Built.the-variants.{Positive}
@@ -31,11 +31,11 @@ module _ (pos : ℕ → List ℕ) where
   none-stays : (n : ℕ) (s : Attempt) → s .left ≡ [] → run pos n s .left ≡ []
   unfolding run
   none-stays zero s e = e
-  none-stays (suc n) s e = none-stays n (step pos s) (go (s .queue))
+  none-stays (suc n) s e = none-stays n (oneStep pos s) (go (s .queue))
     where
       go : (q : List ℕ) → next pos q s .left ≡ []
       go [] = e
-      go (p ∷ q) = ap (λ (l : List ℕ). settle pos l p q s .left) (ap (lying pos p) e ∙ lying-nil pos p) ∙ e
+      go (p ∷ q) = ap (λ (l : List ℕ). takeCell pos l p q s .left) (ap (lying pos p) e ∙ lying-nil pos p) ∙ e
 
   module _ (h : ℕ) where
     -- the one hash lies alone on a cell of degree 1
@@ -49,24 +49,24 @@ module _ (pos : ℕ → List ℕ) where
     without-it = rw (without-cons, eq-eqb h h refl) refl
 
     -- so the first step takes it off
-    first-step : (s : Attempt) (p : ℕ) (q : List ℕ) → s .left ≡ h ∷ [] → s .queue ≡ p ∷ q → degree pos p (h ∷ []) ≡ 1 → step pos s .left ≡ []
+    first-step : (s : Attempt) (p : ℕ) (q : List ℕ) → s .left ≡ h ∷ [] → s .queue ≡ p ∷ q → degree pos p (h ∷ []) ≡ 1 → oneStep pos s .left ≡ []
     first-step s p q l e d =
         ap (λ (x : List ℕ). next pos x s .left) e
-        ∙ ap (λ (x : List ℕ). settle pos x p q s .left) (ap (lying pos p) l ∙ alone p d)
+        ∙ ap (λ (x : List ℕ). takeCell pos x p q s .left) (ap (lying pos p) l ∙ alone p d)
         ∙ ap (without h) l ∙ without-it
 
     module _ (n p : ℕ) (low : p < suc n) (lies : degree pos p (h ∷ []) ≡ 1) where
-      from-start : (q : List ℕ) → queued pos (h ∷ []) (rising 0 (suc n)) [] ≡ q → step pos (start pos (suc n) (h ∷ [])) .left ≡ []
+      from-start : (q : List ℕ) → queued pos (h ∷ []) (rising 0 (suc n)) [] ≡ q → oneStep pos (begun pos (suc n) (h ∷ [])) .left ≡ []
       from-start [] e =
-          absurd (omega (arith, queued-yes pos (h ∷ []) p lies (rising 0 (suc n)) [], ap (count p) e, count-nil p, rising-has 0 (suc n) p (omega arith) (omega arith)))
+          absurd (omega (arith, queued-yes pos (h ∷ []) p lies (rising 0 (suc n)) [], ap (occurs p) e, occurs-nil p, rising-has 0 (suc n) p (omega arith) (omega arith)))
       from-start (v ∷ q) e =
           by-test (eqb (degree pos v (h ∷ [])) 1)
-          (λ t. first-step (start pos (suc n) (h ∷ [])) v q refl e (eqb-true _ _ t))
-          (λ t. absurd (omega (arith, queued-no pos (h ∷ []) v (eqb-false _ _ t) (rising 0 (suc n)) [], ap (count v) e, count-here v q, count-nil v)))
+          (λ t. first-step (begun pos (suc n) (h ∷ [])) v q refl e (eqb-true _ _ t))
+          (λ t. absurd (omega (arith, queued-no pos (h ∷ []) v (eqb-false _ _ t) (rising 0 (suc n)) [], ap (occurs v) e, occurs-here v q, occurs-nil v)))
 
       one-peels : peelsAll pos (suc n) (h ∷ []) ≡ true
       unfolding peelsAll attempt run
-      one-peels = eq-eqb _ _ (ap length (none-stays n (step pos (start pos (suc n) (h ∷ []))) (from-start _ refl)))
+      one-peels = eq-eqb _ _ (ap length (none-stays n (oneStep pos (begun pos (suc n) (h ∷ []))) (from-start _ refl)))
 
 -- a cell that one number below c names once
 cell-peels : (pos : ℕ → List ℕ) (c h p : ℕ) → p < c → degree pos p (h ∷ []) ≡ 1 → peelsAll pos c (h ∷ []) ≡ true
@@ -74,9 +74,9 @@ cell-peels pos zero h p low lies = absurd (omega arith)
 cell-peels pos (suc n) h p low lies = one-peels pos h n p low lies
 
 -- the first of its four cells is one of them
-first-cell : (segment number h : ℕ) → 1 ≤ count (cellOf segment number h 0) (positionsOf segment number h)
+first-cell : (segment number h : ℕ) → 1 ≤ occurs (cellOf segment number h 0) (positionsOf segment number h)
 unfolding positionsOf
-first-cell segment number h = omega (arith, count-here (cellOf segment number h 0) (cellOf segment number h 1 ∷ cellOf segment number h 2 ∷ cellOf segment number h 3 ∷ []))
+first-cell segment number h = omega (arith, occurs-here (cellOf segment number h 0) (cellOf segment number h 1 ∷ cellOf segment number h 2 ∷ cellOf segment number h 3 ∷ []))
 
 -- THEOREM: an attempt over one hash succeeds, with any seed
 pub one-hash-peels : (segment number seed hash : ℕ) → Usable segment number → succeeds segment number seed (hash ∷ []) ≡ true
@@ -109,5 +109,5 @@ never-positive {hash} P = go (positive-cause P refl)
   where
     go : WhyPositive (hash ∷ []) → ⊥
     go (no-hashes z) = omega arith
-    go (equal-hashes v k) = by-test (eqb v hash) (λ e. omega (arith, count-cons v hash [], count-nil v, ap one e)) (λ e. omega (arith, count-cons v hash [], count-nil v, ap one e))
+    go (equal-hashes v k) = by-test (eqb v hash) (λ e. omega (arith, occurs-cons v hash [], occurs-nil v, ap one e)) (λ e. omega (arith, occurs-cons v hash [], occurs-nil v, ap one e))
     go (no-attempt f) = false≢true (sym (f 1 (omega arith) (omega arith)) ∙ first-attempt hash)

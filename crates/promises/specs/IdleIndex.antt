@@ -10,7 +10,8 @@ use lib.ListN.{length, take}
 use Rattle.laws.specs.Each.{each-none, each-more}
 use Rattle.words.specs.Field.{spelled, le, bytesOf}
 use Rattle.words.specs.Part.{orderOf, sameAs}
-use Rattle.words.proofs.Laws.{AllBytes, bytes-tested}
+use Rattle.words.proofs.Laws.{bytes-tested}
+use Rattle.words.specs.Field.{AllBytes}
 use Rattle.mixing.specs.Mixing.{hashOf, seedOf}
 use Rattle.layout.specs.Layout.{keysIn}
 use Rattle.records.specs.declared.Kind.the-variants.{Put, Tombstone}
@@ -23,7 +24,7 @@ use Rattle.records.specs.Rules.{keyRises, keyRefusal, sequenceFalls, versionRef
 use Rattle.records.specs.Tables.{TableInData}
 use Rattle.records.specs.Walk.{walkFrom}
 use Rattle.construct.specs.Construct.{bucketsOf, attemptOf}
-use Rattle.construct.specs.Keys.{keyOf, hashesOf, attemptHashes}
+use Rattle.construct.specs.Keys.{arenaKey, hashesOf, attemptHashes}
 use Rattle.construct.proofs.Figures.{one-key}
 use Rattle.point.specs.declared.Answer.the-variants.{Found, Nothing}
 use Rattle.point.specs.Get.{getOf, answerNumber}
@@ -73,13 +74,13 @@ unfolding oneArena oneTable tableBytes entryBytes versionsBytes versionBytes byt
 one-entries = refl
 
 -- its hash under the seed of attempt i, alone
-one-hashes : (i : ℕ) → attemptHashes oneArena (keysOf oneArena) i ≡ hashOf (seedOf i) (keyOf oneArena 0) ∷ []
+one-hashes : (i : ℕ) → attemptHashes oneArena (keysOf oneArena) i ≡ hashOf (seedOf i) (arenaKey oneArena 0) ∷ []
 unfolding attemptHashes hashesOf
 one-hashes i = ap (λ (n : ℕ). attemptHashes oneArena n i) one-keys
 
 one-number : (out wide narrow : ℕ) → finishedNumber (finishOf oneArena out wide narrow) ≡ 10 → ⊥
 one-number out wide narrow e =
-    Option·some-ne-none _ (sym (one-key (hashOf (seedOf 0) (keyOf oneArena 0))) ∙ ap attemptOf (sym (one-hashes 0)) ∙ ten-fails oneArena out wide narrow e 0 (omega arith))
+    Option·some-ne-none _ (sym (one-key (hashOf (seedOf 0) (arenaKey oneArena 0))) ∙ ap attemptOf (sym (one-hashes 0)) ∙ ten-fails oneArena out wide narrow e 0 (omega arith))
 
 -- THEOREM: a finish that answers 10 each time is shut out: for one key no call that meets finish's contract answers 10
 pub never-ten : {o w u o' w' u' : List ℕ} → FinishPost oneArena o w u (Refused 10) o' w' u' → ⊥

@@ -9,7 +9,8 @@ use mathlib.Core.Option.{some}
 use lib.ListN.{length, take}
 use lib.Seq.{take-at}
 use borrow.Author.Tests.{le-leb}
-use Rattle.words.proofs.Laws.{AllBytes, bytes-drop}
+use Rattle.words.proofs.Laws.{bytes-drop}
+use Rattle.words.specs.Field.{AllBytes}
 use Rattle.words.proofs.PartLaws.{splice-front}
 use Rattle.layout.specs.Layout.{keysIn, arenaIn}
 use Rattle.records.specs.declared.Limit.the-variants.{None, UpTo}
@@ -25,7 +26,7 @@ use Rattle.point.proofs.Theorems.{get-is-lookup}
 use Rattle.lines.specs.declared.Listed.{Listed}
 use Rattle.lines.specs.declared.Listed.the-variants.{Text}
 use Rattle.lines.specs.Shown.{Rule, tombstoneIn, newestTombstone, shown, Shows, shownOf, ShownRise, shownCount}
-use Rattle.lines.specs.Listing.{lineCount, linesOf, textOfShown, headerOf, tableText, refusedText, limitIn, dataLengthIn, bodyIn, textOf, listedOf, Listing}
+use Rattle.lines.specs.Listing.{lineCount, linesOf, textOfShown, listingHeader, tableText, refusedText, limitIn, dataLengthIn, bodyIn, textOf, listedOf, Listing}
 use Rattle.lines.specs.Causes.{ListingStops}
 use Rattle.lines.proofs.InputLaws.{accepted-rises}
 use Rattle.lines.proofs.CauseLaws.{refused-stops, stops-refused, listed-text, text-listed-only, unstopped-taken}
@@ -142,8 +143,8 @@ module _ (input : List ℕ) where
   keys-counted = entries-count (bodyIn input) (arenaIn (bodyIn input)) (keysIn (bodyIn input))
 
   -- THEOREM: the whole text of an input that can be listed: the header with its limit, the keys in its body and the lines that follow; the lines
-  pub whole-text : Listable input → textOf newestTombstone input ≡ headerOf (limitIn input) (keysIn (bodyIn input)) (lineCount (linesIn input)) ++ linesIn input
+  pub whole-text : Listable input → textOf newestTombstone input ≡ listingHeader (limitIn input) (keysIn (bodyIn input)) (lineCount (linesIn input)) ++ linesIn input
   unfolding tableText
   whole-text l =
       listable-listed newestTombstone input l
-      ∙ ap₂ (λ (keys count : ℕ). headerOf (limitIn input) keys count ++ linesIn input) keys-counted (sym lines-counted)
+      ∙ ap₂ (λ (keys count : ℕ). listingHeader (limitIn input) keys count ++ linesIn input) keys-counted (sym lines-counted)

@@ -8,7 +8,7 @@ use native.Mathlib.Omega.{arith}
 use borrow.Author.Tests.{eq-eqb, ne-eqb}
 use lib.ListN.{length, replicate}
 use Rattle.laws.specs.Refusals.{First}
-use Rattle.words.proofs.Laws.{AllBytes}
+use Rattle.words.specs.Field.{AllBytes}
 use Rattle.records.specs.declared.Kind.{Kind}
 use Rattle.records.specs.declared.Limit.{Limit}
 use Rattle.builder.specs.declared.PointBuilder.{PointBuilder}

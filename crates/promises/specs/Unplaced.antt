@@ -9,7 +9,8 @@ use lib.ListN.{length, take}
 use Rattle.laws.specs.Each.{Each, each-none, each-more}
 use Rattle.words.specs.Field.{spelled, le, bytesOf}
 use Rattle.words.specs.Part.{orderOf}
-use Rattle.words.proofs.Laws.{AllBytes, bytes-tested}
+use Rattle.words.proofs.Laws.{bytes-tested}
+use Rattle.words.specs.Field.{AllBytes}
 use Rattle.mixing.specs.Mixing.{hashOf, bucketOf, seedOf}
 use Rattle.mixing.specs.Example.{equal-pair}
 use Rattle.records.specs.declared.DataLength.the-variants.{Untested}
@@ -21,7 +22,7 @@ use Rattle.records.specs.Tables.{TableRules}
 use Rattle.records.specs.Walk.{walkFrom}
 use Rattle.records.proofs.Theorems.{read-back}
 use Rattle.builder.specs.declared.PointBuilder.{PointBuilder}
-use Rattle.builder.specs.Taken.{KeyBytes, Taken, TakenInto}
+use Rattle.builder.specs.Taken.{KeyBytes, TakenList, TakenInto}
 use Rattle.builder.proofs.TakenTheorems.{taken-state}
 use Rattle.construct.specs.Construct.{bucketsOf}
 use Rattle.construct.specs.Keys.{hashesOf, attemptHashes}
@@ -112,7 +113,7 @@ unfolding arenaStart bucketsOf pairArena pairTable tableBytes entryBytes version
 pair-length = refl
 
 -- THEOREM: where the list is taken, whatever meets finish's contract on its used bytes, with room, answers 10
-pub ten-given : {s : PointBuilder} {buffer o w u o' w' u' : List ℕ} {r : Finished} → Taken s buffer pairTable → PairRoom o w u
+pub ten-given : {s : PointBuilder} {buffer o w u o' w' u' : List ℕ} {r : Finished} → TakenList s buffer pairTable → PairRoom o w u
     → FinishPost (take (s .used) buffer) o w u r o' w' u' → finishedNumber r ≡ 10
 unfolding pairArena pairTable
 ten-given {s} {buffer} {o} {w} {u} t R P =

@@ -7,9 +7,11 @@ use mathlib.Core.List.{List}
 use lib.Dec.{eqb}
 use lib.ListN.{length}
 use borrow.Author.Tests.{eqb-true, eqb-false, eq-eqb, ne-eqb}
-use Rattle.laws.specs.Refusals.{orElse, None, none-given, none-only, first-positive}
-use Rattle.laws.specs.RefusalLaws.{FirstOfTwo, two-given, two-only}
-use Rattle.laws.specs.RefusalLaws.FirstOfTwo.{by-first, by-second}
+use Rattle.laws.specs.Refusals.{orElse, None}
+use Rattle.laws.proofs.RefusalLaws.{none-given, none-only, first-positive}
+use Rattle.laws.specs.Refusals.{FirstOfTwo}
+use Rattle.laws.proofs.RefusalLaws.{two-given, two-only}
+use Rattle.laws.specs.Refusals.FirstOfTwo.{by-first, by-second}
 use Rattle.records.specs.declared.DataLength.{DataLength}
 use Rattle.records.specs.Places.{versionCount, firstVersion, nextEntry}
 use Rattle.records.specs.Rules.{keyCauses, keyRefusal, versionCauses, versionRefusal, versionsRefusal, entryVersionsRefusal, entryRefusal}

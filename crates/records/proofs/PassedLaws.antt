@@ -9,7 +9,7 @@ use mathlib.Core.Logic.{⊎-elim}
 use lib.ListN.{length, getD}
 use lib.Dec.{eqb}
 use borrow.Author.Tests.{eqb-true, eqb-false}
-use Rattle.laws.specs.Cases.{lt-or-ge}
+use Rattle.laws.proofs.Cases.{lt-or-ge}
 use Rattle.records.specs.declared.DataLength.{DataLength}
 use Rattle.records.specs.declared.Walked.{Walked}
 use Rattle.records.specs.Model.{Entry}

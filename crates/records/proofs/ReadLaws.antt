@@ -10,10 +10,11 @@ use lib.Dec.{ltb, eqb}
 use borrow.Author.Tests.{ltb-true, eqb-true, eq-eqb, not-false}
 use Rattle.laws.specs.Each.{Each}
 use Rattle.laws.specs.Each.Each.{each-none, each-more}
-use Rattle.laws.specs.RefusalLaws.{orElse-zero}
+use Rattle.laws.proofs.RefusalLaws.{orElse-zero}
 use Rattle.words.specs.Field.{le, bytesOf}
 use Rattle.words.specs.Part.{orderOf}
-use Rattle.words.proofs.Laws.{AllBytes, le-lt}
+use Rattle.words.proofs.Laws.{le-lt}
+use Rattle.words.specs.Field.{AllBytes}
 use Rattle.words.proofs.WrittenLaws.{part-rest, read-rest}
 use Rattle.records.specs.declared.DataLength.{DataLength}
 use Rattle.records.specs.Model.{kindByte, versionBytes, versionsBytes, entryBytes, tableBytes, Falls, Rises}

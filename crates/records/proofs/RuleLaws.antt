@@ -8,10 +8,11 @@ use mathlib.Core.Bool.{Bool, true, false, not, cond}
 use lib.ListN.{length}
 use lib.Dec.{ltb}
 use borrow.Author.Tests.{ltb-true, ltb-false, eqb-false, not-false, lt-ltb, le-ltb, eq-eqb, ne-eqb}
-use Rattle.laws.specs.Refusals.{First, None, Numbered, first-given, first-only, none-given, none-only}
+use Rattle.laws.specs.Refusals.{First, None, Numbered}
+use Rattle.laws.proofs.RefusalLaws.{first-given, first-only, none-given, none-only}
 use Rattle.laws.specs.Refusals.None.{none-here, none-more}
 use Rattle.laws.specs.Refusals.Numbered.{numbered-none, numbered-more}
-use Rattle.laws.specs.RefusalLaws.{orElse-stop, orElse-zero}
+use Rattle.laws.proofs.RefusalLaws.{orElse-stop, orElse-zero}
 use Rattle.words.specs.declared.part.Order.{Order}
 use Rattle.words.specs.Part.{orderOf}
 use Rattle.records.specs.declared.DataLength.{DataLength}

@@ -4,7 +4,8 @@ use native.Mathlib.Omega.{arith}
 use mathlib.Core.List.{List, [], _∷_}
 use lib.ListN.{length}
 use borrow.Author.Tests.{le-ltb}
-use Rattle.laws.specs.Each.{Each, each-map}
+use Rattle.laws.specs.Each.{Each}
+use Rattle.laws.proofs.EachLaws.{each-map}
 use Rattle.laws.specs.Each.Each.{each-none, each-more}
 use Rattle.records.specs.declared.Record.{Record}
 use Rattle.records.specs.declared.DataLength.{DataLength}

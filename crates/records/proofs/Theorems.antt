@@ -11,7 +11,7 @@ use lib.Dec.{eqb}
 use borrow.Author.Tests.{eq-eqb}
 use Rattle.laws.specs.Each.{Each}
 use Rattle.laws.specs.Each.Each.{each-none, each-more}
-use Rattle.words.proofs.Laws.{AllBytes}
+use Rattle.words.specs.Field.{AllBytes}
 use Rattle.records.specs.declared.DataLength.{DataLength}
 use Rattle.records.specs.declared.Walked.{Walked}
 use Rattle.records.specs.Model.{Entry, tableBytes}

@@ -8,8 +8,9 @@ use mathlib.Core.Option.{Option, none, some}
 use lib.ListN.{length}
 use lib.Dec.{leb}
 use borrow.Author.Tests.{le-ltb, le-leb}
-use Rattle.laws.specs.RefusalLaws.{orElse-zero}
-use Rattle.words.proofs.Laws.{AllBytes, le-lt}
+use Rattle.laws.proofs.RefusalLaws.{orElse-zero}
+use Rattle.words.proofs.Laws.{le-lt}
+use Rattle.words.specs.Field.{AllBytes}
 use Rattle.records.specs.declared.Record.{Record}
 use Rattle.records.specs.declared.DataLength.{DataLength}
 use Rattle.records.specs.declared.Limit.{Limit}

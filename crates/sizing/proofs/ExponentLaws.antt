@@ -12,7 +12,7 @@ use lib.Pow.{pow-mono}
 use borrow.Author.Tests.{leb-true, le-leb, eqb-true}
 use Rattle.laws.specs.Power.{PowerOfTwo}
 use Rattle.sizing.specs.Table.{leasts}
-use Rattle.sizing.specs.Sizing.{rule, greatest, sizedAs, exponentOf, segmentOf, upTo}
+use Rattle.sizing.specs.Sizing.{rule, exponentUpTo, sizedAs, exponentOf, segmentOf, upTo}
 use Rattle.sizing.proofs.SearchLaws.{upTo-yes}
 use Rattle.sizing.proofs.RowLaws.{walk, At, row}
 
@@ -22,45 +22,45 @@ rule-mono k {m} {n} l t =
     le-leb (291 ^ (2 * k + 1)) (n ^ 2 * 100 ^ (2 * k + 1))
     (le-trans (leb-true (291 ^ (2 * k + 1)) (m ^ 2 * 100 ^ (2 * k + 1)) t) (mul-le-mul-right (100 ^ (2 * k + 1)) (pow-le-pow-left l 2)))
 
-greatest-le : (k m : ℕ) → greatest k m ≤ k
-unfolding greatest
+greatest-le : (k m : ℕ) → exponentUpTo k m ≤ k
+unfolding exponentUpTo
 greatest-le zero m = le-refl 0
 greatest-le (suc k) m = by-test (rule (suc k) m) (greatest-le k m)
   where
-    by-test : (b : Bool) → greatest k m ≤ k → cond b (suc k) (greatest k m) ≤ suc k
+    by-test : (b : Bool) → exponentUpTo k m ≤ k → cond b (suc k) (exponentUpTo k m) ≤ suc k
     by-test true h = le-refl (suc k)
     by-test false h = le-step h
 
-greatest-mono : (k : ℕ) {m n : ℕ} → m ≤ n → greatest k m ≤ greatest k n
-unfolding greatest
+greatest-mono : (k : ℕ) {m n : ℕ} → m ≤ n → exponentUpTo k m ≤ exponentUpTo k n
+unfolding exponentUpTo
 greatest-mono zero l = le-refl 0
 greatest-mono (suc k) {m} {n} l = by-test (rule (suc k) m) (rule (suc k) n) (rule-mono (suc k) l) (greatest-mono k l)
   where
-    by-test : (b d : Bool) → (b ≡ true → d ≡ true) → greatest k m ≤ greatest k n → cond b (suc k) (greatest k m) ≤ cond d (suc k) (greatest k n)
+    by-test : (b d : Bool) → (b ≡ true → d ≡ true) → exponentUpTo k m ≤ exponentUpTo k n → cond b (suc k) (exponentUpTo k m) ≤ cond d (suc k) (exponentUpTo k n)
     by-test true true f h = le-refl (suc k)
     by-test true false f h = absurd (true≢false (sym (f refl)))
     by-test false true f h = le-step (greatest-le k m)
     by-test false false f h = h
 
 -- the rule allows it, where it allows 0
-greatest-rule : (k m : ℕ) → rule 0 m ≡ true → rule (greatest k m) m ≡ true
-unfolding greatest
+greatest-rule : (k m : ℕ) → rule 0 m ≡ true → rule (exponentUpTo k m) m ≡ true
+unfolding exponentUpTo
 greatest-rule zero m t = t
 greatest-rule (suc k) m t = by-test (rule (suc k) m) refl (greatest-rule k m t)
   where
-    by-test : (b : Bool) → rule (suc k) m ≡ b → rule (greatest k m) m ≡ true → rule (cond b (suc k) (greatest k m)) m ≡ true
+    by-test : (b : Bool) → rule (suc k) m ≡ b → rule (exponentUpTo k m) m ≡ true → rule (cond b (suc k) (exponentUpTo k m)) m ≡ true
     by-test true e h = e
     by-test false e h = h
 
-greatest-top : (k m j : ℕ) → j ≤ k → rule j m ≡ true → j ≤ greatest k m
-unfolding greatest
+greatest-top : (k m j : ℕ) → j ≤ k → rule j m ≡ true → j ≤ exponentUpTo k m
+unfolding exponentUpTo
 greatest-top zero m j l t = l
 greatest-top (suc k) m j l t = by-test (rule (suc k) m) refl (λ i. greatest-top k m j i t)
   where
     lt : (j ≡ suc k → ⊥) → j ≤ k
     lt d = omega arith
 
-    by-test : (b : Bool) → rule (suc k) m ≡ b → (j ≤ k → j ≤ greatest k m) → j ≤ cond b (suc k) (greatest k m)
+    by-test : (b : Bool) → rule (suc k) m ≡ b → (j ≤ k → j ≤ exponentUpTo k m) → j ≤ cond b (suc k) (exponentUpTo k m)
     by-test true e f = l
     by-test false e f = f (lt (λ h. true≢false (sym t ∙ subst (λ (x : ℕ). rule x m ≡ false) (sym h) e)))
 
@@ -92,7 +92,7 @@ leastTest : ℕ → ℕ → ℕ → ℕ → Bool
 leastTest i f g s = eqb (exponentOf f) i && eqb (exponentOf (g - 1)) i
 
 leasts-right : walk leastTest (2 ^ 64) 0 1 (drop 1 leasts) leasts ≡ true
-unfolding walk leastTest leasts exponentOf greatest rule
+unfolding walk leastTest leasts exponentOf exponentUpTo rule
 leasts-right = refl
 
 leasts-from : leasts ≡ 1 ∷ drop 1 leasts

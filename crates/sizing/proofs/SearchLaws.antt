@@ -8,7 +8,7 @@ use native.Mathlib.Omega.{arith}
 use lib.Dec.{leb, ltb}
 use lib.ListN.{length, getD}
 use borrow.Author.Tests.{leb-true, leb-false, le-leb, lt-leb, ltb-true}
-use Rattle.sizing.specs.Sizing.{upTo, risesFrom, rises}
+use Rattle.sizing.specs.Sizing.{upTo, risesFrom, risesStrictly}
 
 -- the table's first number is at most n, or greater
 pub upTo-yes : (x : ℕ) (xs : List ℕ) (n : ℕ) → x ≤ n → upTo (x ∷ xs) n ≡ suc (upTo xs n)
@@ -60,7 +60,7 @@ front x (y ∷ ys) t n (suc i) l h =
     omega (arith, upTo-yes x (y ∷ ys) n (omega arith))
 
 -- a number of a rising table that is at most n belongs to the front
-pub upTo-front : (xs : List ℕ) → rises xs ≡ true → (n i : ℕ) → i < length xs → getD xs i 0 ≤ n → i < upTo xs n
-unfolding rises
+pub upTo-front : (xs : List ℕ) → risesStrictly xs ≡ true → (n i : ℕ) → i < length xs → getD xs i 0 ≤ n → i < upTo xs n
+unfolding risesStrictly
 upTo-front [] t n i l h = absurd (not-suc-le-zero l)
 upTo-front (x ∷ xs) t n i l h = front x xs t n i l h

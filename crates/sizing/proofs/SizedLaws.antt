@@ -14,7 +14,7 @@ use Rattle.fuse.specs.Positions.{cellsIn, Usable}
 use Rattle.fuse.specs.Layout.{Accepted}
 use Rattle.sizing.specs.declared.Plan.the-variants.{Positive, Fuse}
 use Rattle.sizing.specs.Table.{mostHashes, firsts, segments}
-use Rattle.sizing.specs.Sizing.{rule, greatest, exponentOf, segmentOf, upTo, segmentsOf, cellsOf, sizesOf, planOf, lastOfRow, RowRule, rises, risesFrom}
+use Rattle.sizing.specs.Sizing.{rule, exponentUpTo, exponentOf, segmentOf, upTo, segmentsOf, cellsOf, sizesOf, planOf, lastOfRow, RowRule, risesStrictly, risesFrom}
 use Rattle.sizing.proofs.SearchLaws.{upTo-yes}
 use Rattle.sizing.proofs.RowLaws.{walk, walk-row, row}
 use Rattle.sizing.proofs.ExponentLaws.{exponent-mono, segment-most, segment-power}
@@ -22,8 +22,8 @@ use Rattle.sizing.proofs.ExponentLaws.{exponent-mono, segment-most, seg
 -- ---- the rule, over the whole table
 
 -- the first counts rise strictly
-pub firsts-rise : rises firsts ≡ true
-unfolding rises risesFrom firsts
+pub firsts-rise : risesStrictly firsts ≡ true
+unfolding risesStrictly risesFrom firsts
 firsts-rise = refl
 
 -- from 1
@@ -48,7 +48,7 @@ rowTest : ℕ → ℕ → ℕ → ℕ → Bool
 rowTest i f g s = eqb (exponentOf f) (exponentOf (g - 1)) && leb (43 * (g - 1)) (40 * (s * 2 ^ exponentOf f))
 
 rows-right : walk rowTest (mostHashes + 1) 0 1 (drop 1 firsts) segments ≡ true
-unfolding walk rowTest firsts segments exponentOf greatest rule
+unfolding walk rowTest firsts segments exponentOf exponentUpTo rule
 rows-right = refl
 
 -- THEOREM: the rule holds at each row

@@ -15,9 +15,9 @@ unfoldable pub rule : (k m : ℕ) → Bool
 rule k m = leb (291 ^ (2 * k + 1)) (m ^ 2 * 100 ^ (2 * k + 1))
 
 -- the greatest whole number from 0 to k that the rule allows
-unfoldable pub greatest : (k m : ℕ) → ℕ
-greatest zero m = zero
-greatest (suc k) m = cond (rule (suc k) m) (suc k) (greatest k m)
+unfoldable pub exponentUpTo : (k m : ℕ) → ℕ
+exponentUpTo zero m = zero
+exponentUpTo (suc k) m = cond (rule (suc k) m) (suc k) (exponentUpTo k m)
 
 -- m: the larger of n and 2
 abbrev pub sizedAs : ℕ → ℕ
@@ -25,7 +25,7 @@ sizedAs n = max n 2
 
 -- the segment's exponent
 unfoldable pub exponentOf : ℕ → ℕ
-exponentOf n = greatest 18 (sizedAs n)
+exponentOf n = exponentUpTo 18 (sizedAs n)
 
 -- the segment
 unfoldable pub segmentOf : ℕ → ℕ
@@ -67,7 +67,7 @@ unfoldable pub risesFrom : ℕ → List ℕ → Bool
 risesFrom x [] = true
 risesFrom x (y ∷ ys) = ltb x y && risesFrom y ys
 
-unfoldable pub rises : List ℕ → Bool
+unfoldable pub risesStrictly : List ℕ → Bool
 unfolding risesFrom
-rises [] = true
-rises (x ∷ xs) = risesFrom x xs
+risesStrictly [] = true
+risesStrictly (x ∷ xs) = risesFrom x xs

@@ -2,7 +2,7 @@
 ghost use mathlib.Core.Bool.{true};
 ghost use mathlib.Core.Path.{_≡_};
 ghost use Prim.Native.Nat.{_-_, _≤_};
-ghost use Rattle.sizing.specs.Sizing.{upTo, rises, segmentOf, segmentsOf, planOf};
+ghost use Rattle.sizing.specs.Sizing.{upTo, risesStrictly, segmentOf, segmentsOf, planOf};
 
 mod table;
 
@@ -26,7 +26,7 @@ fn wide(x: u32) -> usize
 
 // How many numbers at the front of a rising table are at most n: a binary search, for both tables.
 fn up_to(table: &[u32], n: usize) -> usize
-    requires { ⌜ rises (now table) ≡ true ⌝ }
+    requires { ⌜ risesStrictly (now table) ≡ true ⌝ }
     ensures { λ r. ⌜ r ≡ upTo (now (table .entry)) n ⌝ }
 {
     let mut low: usize = 0;

@@ -11,7 +11,7 @@ use lib.ListN.{length, take, drop, set, length-append, length-drop, length-set}
 use lib.Seq.{drop-cons, getD-set-same, drop-set-lt}
 use borrow.Rule.Slice.PartAt.{part-to-end}
 use borrow.Author.Tests.{ltb-true, ltb-false, lt-ltb, le-ltb}
-use Rattle.text.specs.Text.{digitsIn, decimal, readFrom, Laid, hexOf, keyText}
+use Rattle.text.specs.Text.{digitsIn, decimal, readFrom, DigitsLaid, hexOf, keyText}
 
 -- ---- decimal digits
 
@@ -124,7 +124,7 @@ module _ (n rest from : ℕ) (bytes : List ℕ) (all : length bytes ≡ 20) (her
       let q : from < length bytes = omega arith in
       rw (e, drop-stored bytes from (48 + rest % 10) q) (sym (append-assoc (decimal (rest / 10)) ((48 + rest % 10) ∷ []) (drop (from + 1) bytes)) ∙ rw (← decimal-more rest t) so)
 
-  pub digits-end : rest < 10 → Laid n from (set bytes from (48 + rest))
+  pub digits-end : rest < 10 → DigitsLaid n from (set bytes from (48 + rest))
   digits-end t =
       let q : from < length bytes = omega arith in
       record {
@@ -134,5 +134,5 @@ module _ (n rest from : ℕ) (bytes : List ℕ) (all : length bytes ≡ 20) (her
       }
 
 -- the part of the array from there on
-pub laid-part : {n from : ℕ} {bytes : List ℕ} → Laid n from bytes → take (20 - from) (drop from bytes) ≡ decimal n
+pub laid-part : {n from : ℕ} {bytes : List ℕ} → DigitsLaid n from bytes → take (20 - from) (drop from bytes) ≡ decimal n
 laid-part {n} {from} {bytes} l = ap (λ (k : ℕ). take (k - from) (drop from bytes)) (sym (l .whole)) ∙ part-to-end bytes from ∙ l .digits

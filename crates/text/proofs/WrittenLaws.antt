@@ -8,7 +8,7 @@ use mathlib.Core.List.{List, [], _∷_, _++_}
 use lib.ListN.{length, getD, drop, set, length-append, drop-of-length-le}
 use lib.Seq.{sets, drop-cons}
 use Rattle.text.specs.Text.{hexDigit, hexOf}
-use Rattle.text.specs.Written.{Ends, Written}
+use Rattle.text.specs.Written.{Ends, WrittenAt}
 
 pub sets-append : (before : List ℕ) (at : ℕ) (s t : List ℕ) → sets before at (s ++ t) ≡ sets (sets before at s) (at + length s) t
 sets-append before at [] t = rw add-zero
@@ -16,7 +16,7 @@ sets-append before at (x ∷ s) t = sets-append _ (suc at) s t ∙ rw (suc-add, 
 
 module _ {before middle after s t : List ℕ} {at place end : ℕ} where
   -- a text and then another
-  pub written-then : Written before at s middle place → Written middle place t after end → Written before at (s ++ t) after end
+  pub written-then : WrittenAt before at s middle place → WrittenAt middle place t after end → WrittenAt before at (s ++ t) after end
   written-then v w =
       record {
         buffer = w .buffer ∙ rw (v .buffer, v .place) (sym (sets-append before at s t));
@@ -27,7 +27,7 @@ module _ {before middle after s t : List ℕ} {at place end : ℕ} where
 pub ends-first : {at : ℕ} {s : List ℕ} (t : List ℕ) → Ends at (s ++ t) → Ends at s
 ends-first t h = record { inside = omega (arith, rw length-append at (h .inside)) }
 
-pub ends-second : {before s middle t : List ℕ} {at place : ℕ} → Written before at s middle place → Ends at (s ++ t) → Ends place t
+pub ends-second : {before s middle t : List ℕ} {at place : ℕ} → WrittenAt before at s middle place → Ends at (s ++ t) → Ends place t
 ends-second w h = record { inside = omega (arith, rw length-append at (h .inside), w .place) }
 
 -- ---- a text put byte by byte, from its i-th on

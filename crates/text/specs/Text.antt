@@ -21,7 +21,7 @@ readFrom n [] = n
 readFrom n (d ∷ ds) = readFrom (10 * n + (d - 48)) ds
 
 -- the digits of n stand at the end of an array of 20 bytes
-pub record Laid (n from : ℕ) (bytes : List ℕ) : Type 0 where
+pub record DigitsLaid (n from : ℕ) (bytes : List ℕ) : Type 0 where
   pub here : from < 20
   pub whole : length bytes ≡ 20
   pub digits : drop from bytes ≡ decimal n

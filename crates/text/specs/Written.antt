@@ -10,6 +10,6 @@ pub record Ends (at : ℕ) (text : List ℕ) : Type 0 where
   pub inside : at + length text < 2 ^ 64
 
 -- the buffer after the text was put from `at` on, what lies past the buffer's end being left out, and the place after the text
-pub record Written (before : List ℕ) (at : ℕ) (text after : List ℕ) (end : ℕ) : Type 0 where
+pub record WrittenAt (before : List ℕ) (at : ℕ) (text after : List ℕ) (end : ℕ) : Type 0 where
   pub buffer : after ≡ sets before at text
   pub place : end ≡ at + length text

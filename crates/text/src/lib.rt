@@ -4,8 +4,8 @@ ghost use mathlib.Core.Path.{_≡_};
 ghost use mathlib.Core.List.{[], _∷_};
 ghost use Prim.Native.Nat.{_<_};
 ghost use lib.ListN.{set};
-ghost use Rattle.text.specs.Text.{decimal, Laid, hexDigit, hexOf, keyText, field, named};
-ghost use Rattle.text.specs.Written.{Ends, Written};
+ghost use Rattle.text.specs.Text.{decimal, DigitsLaid, hexDigit, hexOf, keyText, field, named};
+ghost use Rattle.text.specs.Written.{Ends, WrittenAt};
 
 // The decimal digits of a number, at the end of an array.
 struct Digits {
@@ -25,7 +25,7 @@ fn store(out: &mut [u8], at: usize, b: u8)
 // Writes a byte.
 pub fn put_byte(out: &mut [u8], at: usize, b: u8) -> usize
     requires { ⌜ Ends at (b ∷ []) ⌝ }
-    ensures { λ r. ⌜ Written (now (out .entry)) at (b ∷ []) (now (out .exit)) r ⌝ }
+    ensures { λ r. ⌜ WrittenAt (now (out .entry)) at (b ∷ []) (now (out .exit)) r ⌝ }
 {
     store(out, at, b);
     at + 1
@@ -34,7 +34,7 @@ pub fn put_byte(out: &mut [u8], at: usize, b: u8) -> usize
 // Writes bytes as they are.
 pub fn put_word(out: &mut [u8], at: usize, word: &[u8]) -> usize
     requires { ⌜ Ends at (now word) ⌝ }
-    ensures { λ r. ⌜ Written (now (out .entry)) at (now (word .entry)) (now (out .exit)) r ⌝ }
+    ensures { λ r. ⌜ WrittenAt (now (out .entry)) at (now (word .entry)) (now (out .exit)) r ⌝ }
 {
     let mut i = 0;
     while i < word.len() {
@@ -46,7 +46,7 @@ pub fn put_word(out: &mut [u8], at: usize, word: &[u8]) -> usize
 
 // The decimal digits of n.
 fn digits_of(n: u64) -> Digits
-    ensures { λ r. ⌜ Laid n (r .from) (r .bytes) ⌝ }
+    ensures { λ r. ⌜ DigitsLaid n (r .from) (r .bytes) ⌝ }
 {
     let mut bytes = [0u8; 20];
     let mut from: usize = 19;
@@ -63,7 +63,7 @@ fn digits_of(n: u64) -> Digits
 // Writes a number in decimal digits.
 fn put_decimal(out: &mut [u8], at: usize, n: u64) -> usize
     requires { ⌜ Ends at (decimal n) ⌝ }
-    ensures { λ r. ⌜ Written (now (out .entry)) at (decimal n) (now (out .exit)) r ⌝ }
+    ensures { λ r. ⌜ WrittenAt (now (out .entry)) at (decimal n) (now (out .exit)) r ⌝ }
 {
     let d = digits_of(n);
     let from = d.from;
@@ -85,7 +85,7 @@ fn hex_digit(d: u8) -> u8
 // Writes bytes in lower-case hex.
 fn put_hex(out: &mut [u8], at: usize, bytes: &[u8]) -> usize
     requires { ⌜ Ends at (hexOf (now bytes)) ⌝ }
-    ensures { λ r. ⌜ Written (now (out .entry)) at (hexOf (now (bytes .entry))) (now (out .exit)) r ⌝ }
+    ensures { λ r. ⌜ WrittenAt (now (out .entry)) at (hexOf (now (bytes .entry))) (now (out .exit)) r ⌝ }
 {
     let mut p = at;
     let mut i = 0;
@@ -102,7 +102,7 @@ fn put_hex(out: &mut [u8], at: usize, bytes: &[u8]) -> usize
 // Writes a key in lower-case hex, `-` if it is empty.
 pub fn put_key(out: &mut [u8], at: usize, key: &[u8]) -> usize
     requires { ⌜ Ends at (keyText (now key)) ⌝ }
-    ensures { λ r. ⌜ Written (now (out .entry)) at (keyText (now (key .entry))) (now (out .exit)) r ⌝ }
+    ensures { λ r. ⌜ WrittenAt (now (out .entry)) at (keyText (now (key .entry))) (now (out .exit)) r ⌝ }
 {
     if key.len() == 0 {
         return put_byte(out, at, b'-');
@@ -113,7 +113,7 @@ pub fn put_key(out: &mut [u8], at: usize, key: &[u8]) -> usize
 // Writes a space and a number.
 pub fn put_field(out: &mut [u8], at: usize, n: u64) -> usize
     requires { ⌜ Ends at (field n) ⌝ }
-    ensures { λ r. ⌜ Written (now (out .entry)) at (field n) (now (out .exit)) r ⌝ }
+    ensures { λ r. ⌜ WrittenAt (now (out .entry)) at (field n) (now (out .exit)) r ⌝ }
 {
     let next = put_byte(out, at, b' ');
     put_decimal(out, next, n)
@@ -122,7 +122,7 @@ pub fn put_field(out: &mut [u8], at: usize, n: u64) -> usize
 // Writes a word, a space and a number.
 pub fn put_named(out: &mut [u8], at: usize, word: &[u8], n: u64) -> usize
     requires { ⌜ Ends at (named (now word) n) ⌝ }
-    ensures { λ r. ⌜ Written (now (out .entry)) at (named (now (word .entry)) n) (now (out .exit)) r ⌝ }
+    ensures { λ r. ⌜ WrittenAt (now (out .entry)) at (named (now (word .entry)) n) (now (out .exit)) r ⌝ }
 {
     let next = put_word(out, at, word);
     put_field(out, next, n)

@@ -28,8 +28,8 @@ abbrev pub fieldBytes : List ℕ → ℕ → List ℕ
 fieldBytes raw at = take (bytesEnd raw at - endOf raw at 4) (drop (endOf raw at 4) raw)
 
 -- a file with its magic (`WASHVEC1` as a number): the number of cases, and the first of them behind it
-abbrev pub openOf : List ℕ → File
-openOf file =
+abbrev pub fileOf : List ℕ → File
+fileOf file =
     cond (ltb (length file) 12) Other
     (cond (eqb (le 8 file 0) 3549757168181002583) (Cases (record { at = 12; left = le 4 file 8 })) Other)
 

@@ -4,7 +4,7 @@ use words::field;
 ghost use mathlib.Core.Path.{_≡_};
 ghost use Prim.Native.Nat.{_-_};
 ghost use lib.ListN.{length};
-ghost use Rattle.vectors.specs.Format.{fieldOf, endOf, bytesEnd, fieldBytes, openOf, nextOf, countedOf};
+ghost use Rattle.vectors.specs.Format.{fieldOf, endOf, bytesEnd, fieldBytes, fileOf, nextOf, countedOf};
 
 pub mod patch;
 pub mod space;
@@ -112,7 +112,7 @@ impl Cursor {
 
     // Opens a file.
     pub fn open(file: &[u8]) -> File
-        ensures { λ r. ⌜ r ≡ openOf (now (file .entry)) ⌝ }
+        ensures { λ r. ⌜ r ≡ fileOf (now (file .entry)) ⌝ }
     {
         if file.len() < 12 {
             return File::Other;

@@ -7,7 +7,8 @@ use native.Mathlib.Omega.{arith}
 use lib.ListN.{length, take, drop, take-append-drop}
 use lib.Seq.{drop-drop, drop-at, take-at}
 use Rattle.words.specs.Field.{spelled, le, bytesOf}
-use Rattle.words.proofs.Laws.{AllBytes, length-bytesOf, spelled-bytesOf, bytesOf-le}
+use Rattle.words.proofs.Laws.{length-bytesOf, spelled-bytesOf, bytesOf-le}
+use Rattle.words.specs.Field.{AllBytes}
 
 -- a number that stands at a place
 pub le-there : (k n p : ℕ) (zs ys : List ℕ) → n < 256 ^ k → drop p zs ≡ bytesOf k n ++ ys → le k zs p ≡ n

@@ -5,7 +5,7 @@ use mathlib.Core.Path.{refl, sym, _∙_}
 use mathlib.Core.Bool.{true, false}
 use denote.Ref.{now}
 use lib.Seq.{length-take-le}
-use Rattle.mixing.specs.Slots.{some-buckets, few-buckets}
+use Rattle.mixing.proofs.SlotLaws.{some-buckets, few-buckets}
 use Rattle.finish.proofs.BodyLaws.{part-long, pilots-part, slots-part, room-slots}
 use Rattle.finish.proofs.FinishLaws.{chosen-refusal, chosen-out, chosen-written, built-eleven, built-body}
 use borrow.Author.Needs.{needs}

@@ -4,7 +4,7 @@ use mathlib.Core.Path.{_≡_, _∙_, subst, sym}
 use Prim.Native.Nat.{ℕ, _+_, _*_, _^_, _<_}
 use native.Mathlib.Omega.{arith}
 use borrow.Author.Needs.{needs}
-use Rattle.laws.specs.Power.{power-pos}
+use Rattle.laws.proofs.PowerLaws.{power-pos}
 use Rattle.fuse.specs.Positions.{firstCell}
 use Rattle.fuse.proofs.PositionLaws.{room, cell-first, cell-other}
 use Rattle.fuse.proofs.cell.Statement.{statement}

@@ -2,7 +2,7 @@
 use native.Mathlib.Omega.{arith}
 use borrow.Author.Needs.{needs}
 use borrow.Author.Tests.{le-leb, lt-leb, eq-eqb, ne-eqb}
-use Rattle.mixing.specs.Slots.{few-buckets}
+use Rattle.mixing.proofs.SlotLaws.{few-buckets}
 use Rattle.layout.specs.Layout.{dimensionRefusal}
 use Rattle.layout.proofs.dimension_refusal.Statement.{statement}
 use Rattle.layout.proofs.dimension_refusal.Tie as tie

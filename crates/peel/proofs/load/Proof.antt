@@ -5,7 +5,7 @@ use Prim.Native.Nat.{ℕ, _-_, _≤_}
 use native.Mathlib.Omega.{arith}
 use borrow.Author.Needs.{needs}
 use lib.ListN.{length, drop, length-map, drop-of-length-le}
-use Rattle.laws.specs.Lists.{map-at}
+use Rattle.laws.proofs.Lists.{map-at}
 use Rattle.peel.proofs.TableLaws.{tables-load}
 use Rattle.fuse.specs.Asking.{graphHash}
 use Rattle.fuse.specs.Positions.{positionsOf}

@@ -6,8 +6,8 @@ use native.Mathlib.Omega.{arith}
 use borrow.Author.Needs.{needs}
 use lib.ListN.{length}
 use Rattle.fuse.specs.Positions.{positionsOf}
-use Rattle.peel.specs.Peel.{run, start}
-use Rattle.peel.specs.Table.{Ready}
+use Rattle.peel.specs.Peel.{run, begun}
+use Rattle.peel.specs.Table.{StandsFor}
 use Rattle.peel.proofs.StepLaws.{run-step, run-none, attempt-is}
 use Rattle.peel.proofs.peel_all.Statement.{statement}
 use Rattle.peel.proofs.peel_all.Tie as tie
@@ -15,8 +15,8 @@ use Rattle.peel.proofs.peel_all.Tie as tie
 abbrev Inv-loop : tie.InvT-loop
 Inv-loop wide₀ narrow₀ g top at₀ turn₀ wide narrow at turn =
     (turn ≤ g .cells) × (length wide ≡ length wide₀) × (length narrow ≡ length narrow₀)
-    × ((hs : List ℕ) → Ready (positionsOf (g .segment) (g .count)) (g .cells) hs (start (positionsOf (g .segment) (g .count)) (g .cells) hs) wide₀ narrow₀ top 0
-    → Ready (positionsOf (g .segment) (g .count)) (g .cells) hs (run (positionsOf (g .segment) (g .count)) turn (start (positionsOf (g .segment) (g .count)) (g .cells) hs)) wide narrow (at .top) (at .peeled))
+    × ((hs : List ℕ) → StandsFor (positionsOf (g .segment) (g .count)) (g .cells) hs (begun (positionsOf (g .segment) (g .count)) (g .cells) hs) wide₀ narrow₀ top 0
+    → StandsFor (positionsOf (g .segment) (g .count)) (g .cells) hs (run (positionsOf (g .segment) (g .count)) turn (begun (positionsOf (g .segment) (g .count)) (g .cells) hs)) wide narrow (at .top) (at .peeled))
 
 abbrev μ-loop : tie.MeasureT-loop
 μ-loop wide₀ narrow₀ g top at₀ turn₀ wide narrow at turn = g .cells - turn

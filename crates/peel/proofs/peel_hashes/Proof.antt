@@ -6,8 +6,8 @@ use lib.ListN.{length, length-map}
 use lib.Seq.{length-take-le}
 use Rattle.fuse.specs.Asking.{graphHash}
 use Rattle.fuse.specs.Positions.{positionsOf}
-use Rattle.peel.specs.Peel.{start, mixed}
-use Rattle.peel.specs.Table.{Ready}
+use Rattle.peel.specs.Peel.{begun, mixed}
+use Rattle.peel.specs.Table.{StandsFor}
 use Rattle.peel.proofs.PlaceLaws.{whole-small, whole-placed}
 use Rattle.peel.proofs.TableLaws.{tables-none, cleared}
 use Rattle.peel.proofs.StepLaws.{ready-start}
@@ -17,7 +17,7 @@ use Rattle.peel.proofs.peel_hashes.Tie as tie
 -- the workspace where the peeling begins
 begun : (k : tie.After-slice-known7)
     → (let a = k .before .before .before .before .before .before .before .before .before .before .before .before .before .before .before .before .before .before .before .before .before .before .args in
-    Ready (positionsOf (a .g .segment) (a .g .count)) (a .g .cells) (mixed (a .g .seed) (a .hashes .now)) (start (positionsOf (a .g .segment) (a .g .count)) (a .g .cells) (mixed (a .g .seed) (a .hashes .now)))
+    StandsFor (positionsOf (a .g .segment) (a .g .count)) (a .g .cells) (mixed (a .g .seed) (a .hashes .now)) (begun (positionsOf (a .g .segment) (a .g .count)) (a .g .cells) (mixed (a .g .seed) (a .hashes .now)))
     (k .before .before .before .before .before .before .before .before .load .last .1 .0) (k .before .before .queue-ones .last .0) (k .before .before .queue-ones .result) 0)
 begun k =
     let s = k .before .before .before .before .before .before .before .before .before .before .before .before .before .before .before .before .before .before .before .before .before .before in

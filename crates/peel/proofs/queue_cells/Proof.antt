@@ -4,14 +4,14 @@ use Prim.Native.Nat.{ℕ, _-_, _<_, _≤_}
 use native.Mathlib.Omega.{arith}
 use borrow.Author.Needs.{needs}
 use lib.ListN.{length, getD, drop, drop-of-length-le}
-use Rattle.laws.specs.Lists.{drop-next}
+use Rattle.laws.proofs.Lists.{drop-next}
 use Rattle.peel.proofs.TableLaws.{cell-below, Noting, noting-start, noting-turn, noting-room, noting-end}
-use Rattle.peel.specs.Table.{noted, stack}
+use Rattle.peel.specs.Table.{queuedBy, stack}
 use Rattle.peel.proofs.queue_cells.Statement.{statement}
 use Rattle.peel.proofs.queue_cells.Tie as tie
 
 abbrev Inv-loop : tie.InvT-loop
-Inv-loop narrow₀ c top cells t₀ i₀ narrow t i = (i ≤ length cells) × Noting c narrow₀ (noted narrow₀ cells (stack c top narrow₀)) (drop i cells) t narrow
+Inv-loop narrow₀ c top cells t₀ i₀ narrow t i = (i ≤ length cells) × Noting c narrow₀ (queuedBy narrow₀ cells (stack c top narrow₀)) (drop i cells) t narrow
 
 abbrev μ-loop : tie.MeasureT-loop
 μ-loop narrow₀ c top cells t₀ i₀ narrow t i = length cells - i

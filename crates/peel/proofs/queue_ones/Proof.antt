@@ -6,13 +6,13 @@ use borrow.Author.Needs.{needs}
 use lib.ListN.{length, length-set}
 use mathlib.Core.Logic.{⊎-elim}
 use Rattle.laws.specs.Count.{rising}
-use Rattle.peel.specs.Table.{noted}
+use Rattle.peel.specs.Table.{queuedBy}
 use Rattle.peel.proofs.TableLaws.{Noting, noting-ones, noting-turn, noting-end, queued-stays, queued-goes, rising-next, rising-over}
 use Rattle.peel.proofs.queue_ones.Statement.{statement}
 use Rattle.peel.proofs.queue_ones.Tie as tie
 
 abbrev Inv-loop : tie.InvT-loop
-Inv-loop narrow₀ c top₀ p₀ narrow top p = (p ≤ c) × (top ≤ p) × Noting c narrow₀ (noted narrow₀ (rising 0 c) []) (rising p (c - p)) top narrow
+Inv-loop narrow₀ c top₀ p₀ narrow top p = (p ≤ c) × (top ≤ p) × Noting c narrow₀ (queuedBy narrow₀ (rising 0 c) []) (rising p (c - p)) top narrow
 
 abbrev μ-loop : tie.MeasureT-loop
 μ-loop narrow₀ c top₀ p₀ narrow top p = c - p

@@ -7,7 +7,7 @@ use borrow.Author.Needs.{needs}
 use lib.ListN.{length, getD, length-set}
 use Rattle.fuse.specs.Positions.{positionsOf}
 use Rattle.peel.specs.Peel.{Attempt}
-use Rattle.peel.specs.Table.{Ready}
+use Rattle.peel.specs.Table.{StandsFor}
 use Rattle.peel.proofs.PlaceLaws.{whole-small}
 use Rattle.peel.proofs.StepLaws.{top-le, ready-empty, cell-under, ready-skip, room-peel, cells-under, narrow-length, wide-length, room-queue, ready-peel, ready-suc}
 use Rattle.peel.proofs.step.Statement.{statement}
@@ -16,7 +16,7 @@ use Rattle.peel.proofs.step.Tie as tie
 -- what the caller gave, where the queue is not empty
 abbrev Given : tie.Start → List ℕ → Attempt → Type 0
 Given g hs s =
-    Ready (positionsOf (g .args .g .segment) (g .args .g .count)) (g .args .g .cells) hs s (g .args .wide .now) (g .args .narrow .now) (suc (g .args .at .top - 1)) (g .args .at .peeled)
+    StandsFor (positionsOf (g .args .g .segment) (g .args .g .count)) (g .args .g .cells) hs s (g .args .wide .now) (g .args .narrow .now) (suc (g .args .at .top - 1)) (g .args .at .peeled)
 
 given : (g : tie.Start) → (g .args .at .top ≡ 0 → ⊥) → Given g (g .pre .1 .0) (g .pre .1 .1)
 given g z = ready-suc (g .args .at .top) z (g .pre .1 .2)

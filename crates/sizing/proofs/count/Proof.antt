@@ -6,14 +6,14 @@ use native.Mathlib.Omega.{arith}
 use borrow.Author.Needs.{needs}
 use lib.ListN.{length, getD}
 use Rattle.sizing.specs.Table.{firsts, segments}
-use Rattle.sizing.specs.Sizing.{upTo, segmentsOf, rises, risesFrom}
+use Rattle.sizing.specs.Sizing.{upTo, segmentsOf, risesStrictly, risesFrom}
 use Rattle.sizing.proofs.SearchLaws.{upTo-length}
 use Rattle.sizing.proofs.SizedLaws.{row-of, same-length, segments-within}
 use Rattle.sizing.proofs.count.Statement.{statement}
 use Rattle.sizing.proofs.count.Tie as tie
 
 up-to-requires : tie.Need-up-to-requires
-unfolding rises risesFrom
+unfolding risesStrictly risesFrom
 up-to-requires c κs = refl
 
 -- the place that the search answers, in the recorded table

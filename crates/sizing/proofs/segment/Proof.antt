@@ -7,13 +7,13 @@ use native.Mathlib.Omega.{arith}
 use borrow.Author.Needs.{needs}
 use lib.Pow.{shl-exact}
 use Rattle.sizing.specs.Table.{leasts}
-use Rattle.sizing.specs.Sizing.{exponentOf, segmentOf, rises, risesFrom}
+use Rattle.sizing.specs.Sizing.{exponentOf, segmentOf, risesStrictly, risesFrom}
 use Rattle.sizing.proofs.ExponentLaws.{exponent-le, exponent-table}
 use Rattle.sizing.proofs.segment.Statement.{statement}
 use Rattle.sizing.proofs.segment.Tie as tie
 
 up-to-requires : tie.Need-up-to-requires
-unfolding rises risesFrom
+unfolding risesStrictly risesFrom
 up-to-requires c κs = refl
 
 -- the place that the search answers is one past the exponent

@@ -3,14 +3,14 @@ use native.Mathlib.Omega.{arith}
 use borrow.Author.Needs.{needs}
 use borrow.Author.Tests.{eq-eqb}
 use Rattle.words.specs.declared.part.Order.the-variants.{Less, Equal, Greater}
-use Rattle.builder.specs.Add.{rises}
+use Rattle.builder.specs.Add.{risesAfter}
 use Rattle.builder.proofs.StateLaws.{fits-known}
 use Rattle.builder.proofs.AddLaws.{rises-known}
 use Rattle.builder.proofs.PointBuilder.rises.Statement.{statement}
 use Rattle.builder.proofs.PointBuilder.rises.Tie as tie
 
 returns : tie.Need-returns
-unfolding rises
+unfolding risesAfter
 returns c = simp (eq-eqb _ _ (c .if1 .taken))
 
 key-at-requires : tie.Need-key-at-requires

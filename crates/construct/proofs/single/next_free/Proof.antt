@@ -4,12 +4,12 @@ use native.Mathlib.Omega.{arith}
 use lib.ListN.{length}
 use borrow.Author.Count.{below-more}
 use borrow.Author.Needs.{needs}
-use Rattle.construct.specs.Layout.{Taken}
+use Rattle.construct.specs.Layout.{FilledBelow}
 use Rattle.construct.proofs.single.next_free.Statement.{statement}
 use Rattle.construct.proofs.single.next_free.Tie as tie
 
 abbrev Inv-loop : tie.InvT-loop
-Inv-loop slots from at₀ at = (at ≤ length slots) × Taken slots at
+Inv-loop slots from at₀ at = (at ≤ length slots) × FilledBelow slots at
 
 abbrev μ-loop : tie.MeasureT-loop
 μ-loop slots from at₀ at = length slots - at

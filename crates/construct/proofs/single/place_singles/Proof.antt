@@ -6,13 +6,13 @@ use native.Mathlib.Omega.{arith}
 use lib.ListN.{take}
 use borrow.Author.Needs.{needs}
 use Rattle.construct.specs.Construct.{placeOf, placeSize}
-use Rattle.construct.specs.Layout.{placing, Taken}
+use Rattle.construct.specs.Layout.{placing, FilledBelow}
 use Rattle.construct.proofs.BenchLaws.{SoFar, so-far-none, so-far-more, so-far-fails, so-far-all, bench-kept, bench-buckets}
 use Rattle.construct.proofs.single.place_singles.Statement.{statement}
 use Rattle.construct.proofs.single.place_singles.Tie as tie
 
 abbrev Inv-loop : tie.InvT-loop
-Inv-loop h w₀ n b from₀ k₀ w from k = (k ≤ b) × (from ≤ n) × SoFar (placeOf (take n h) 1) k n b w₀ w × Taken (placing n b w .slots) from
+Inv-loop h w₀ n b from₀ k₀ w from k = (k ≤ b) × (from ≤ n) × SoFar (placeOf (take n h) 1) k n b w₀ w × FilledBelow (placing n b w .slots) from
 
 abbrev μ-loop : tie.MeasureT-loop
 μ-loop h w₀ n b from₀ k₀ w from k = b - k

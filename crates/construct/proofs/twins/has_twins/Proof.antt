@@ -5,7 +5,8 @@ use mathlib.Core.Bool.{false}
 use native.Mathlib.Omega.{arith}
 use lib.ListN.{length}
 use borrow.Author.Needs.{needs}
-use Rattle.laws.specs.Steps.{anyBelow, any-none, any-some, any-miss}
+use Rattle.laws.specs.Steps.{anyBelow}
+use Rattle.laws.proofs.StepsLaws.{any-none, any-some, any-miss}
 use Rattle.construct.specs.Construct.{met, twins}
 use Rattle.construct.proofs.twins.has_twins.Statement.{statement}
 use Rattle.construct.proofs.twins.has_twins.Tie as tie

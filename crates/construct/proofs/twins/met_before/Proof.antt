@@ -5,7 +5,8 @@ use mathlib.Core.Bool.{false}
 use native.Mathlib.Omega.{arith}
 use borrow.Author.Tests.{eq-eqb, ne-eqb}
 use borrow.Author.Needs.{needs}
-use Rattle.laws.specs.Steps.{anyBelow, any-none, any-some, any-miss}
+use Rattle.laws.specs.Steps.{anyBelow}
+use Rattle.laws.proofs.StepsLaws.{any-none, any-some, any-miss}
 use Rattle.construct.specs.Construct.{alike, met}
 use Rattle.construct.proofs.twins.met_before.Statement.{statement}
 use Rattle.construct.proofs.twins.met_before.Tie as tie

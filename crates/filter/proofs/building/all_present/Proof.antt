@@ -4,7 +4,7 @@ use Prim.Native.Nat.{ℕ, _-_, _≤_}
 use lib.ListN.{length, getD}
 use borrow.Author.Tests.{not-true}
 use native.Mathlib.Omega.{arith}
-use Rattle.laws.specs.CountLaws.{count-at}
+use Rattle.laws.proofs.CountLaws.{occurs-at}
 use borrow.Author.Needs.{needs}
 use Rattle.filter.proofs.building.all_present.Statement.{statement}
 use Rattle.filter.proofs.building.all_present.Tie as tie
@@ -33,7 +33,7 @@ returns c =
     λ e.
     let a = c .before .before .before .before .before .before .before .args in
     let i : ℕ = c .before .before .before .before .loop .i in
-    record { hash = getD (a .hashes .now) i 0; given = count-at (a .hashes .now) i (c .before .before .before .loop-test .taken); absent = sym (c .before .contains .ensures) ∙ not-true (c .before .contains .result) (c .if1 .taken) }
+    record { hash = getD (a .hashes .now) i 0; given = occurs-at (a .hashes .now) i (c .before .before .before .loop-test .taken); absent = sym (c .before .contains .ensures) ∙ not-true (c .before .contains .result) (c .if1 .taken) }
 
 add-i : tie.Need-add-i Inv-loop μ-loop
 add-i c = search needs

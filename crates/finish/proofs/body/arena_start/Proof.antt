@@ -3,7 +3,7 @@ use mathlib.Core.Path.{ap, _∙_}
 use Prim.Native.Nat.{ℕ}
 use native.Mathlib.Omega.{arith}
 use borrow.Author.Needs.{needs}
-use Rattle.mixing.specs.Slots.{few-buckets}
+use Rattle.mixing.proofs.SlotLaws.{few-buckets}
 use Rattle.layout.specs.Layout.{slotAt}
 use Rattle.finish.specs.Body.{arenaStart}
 use Rattle.finish.proofs.body.arena_start.Statement.{statement}

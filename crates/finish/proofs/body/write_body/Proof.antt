@@ -3,7 +3,7 @@ use Prim.Native.Nat.{_+_}
 use native.Mathlib.Omega.{arith}
 use mathlib.Core.Path.{refl}
 use denote.Ref.{now}
-use Rattle.mixing.specs.Slots.{few-buckets}
+use Rattle.mixing.proofs.SlotLaws.{few-buckets}
 use Rattle.finish.proofs.BodyLaws.{part-long, pilots-part, slots-part, room-start, slots-asked, body-written}
 use borrow.Author.Needs.{needs}
 use Rattle.finish.proofs.body.write_body.Statement.{statement}

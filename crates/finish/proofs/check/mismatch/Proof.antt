@@ -5,7 +5,8 @@ use mathlib.Core.Path.{_≡_, refl, sym, ap, _∙_}
 use mathlib.Core.Bool.{false}
 use lib.ListN.{length}
 use borrow.Author.Needs.{needs}
-use Rattle.laws.specs.Steps.{anyBelow, any-none, any-some, any-miss}
+use Rattle.laws.specs.Steps.{anyBelow}
+use Rattle.laws.proofs.StepsLaws.{any-none, any-some, any-miss}
 use Rattle.finish.specs.Finish.{unmatchedAt, mismatch}
 use Rattle.finish.proofs.CheckLaws.{unmatched-at}
 use Rattle.finish.proofs.check.mismatch.Statement.{statement}

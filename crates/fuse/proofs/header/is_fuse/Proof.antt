@@ -8,7 +8,7 @@ use native.Mathlib.Omega.{arith}
 use lib.ListN.{length, take}
 use lib.Seq.{length-take-le}
 use Rattle.words.specs.Part.{sameAs}
-use Rattle.fuse.specs.Layout.{headerOf, fuseLaid}
+use Rattle.fuse.specs.Layout.{fuseHeader, fuseLaid}
 use Rattle.fuse.proofs.FitLaws.{fitting-accepted}
 use borrow.Author.Needs.{needs}
 use Rattle.fuse.proofs.header.is_fuse.Statement.{statement}
@@ -28,13 +28,13 @@ returns c =
     let t = c .before .before .before .before in
     let a = t .before .before .before .args in
     c .same .ensures ∙ ap (λ (h : List ℕ). sameAs (take 48 (a .bytes .now)) h) (c .before .before .before .header .ensures)
-    ∙ ap (λ (b : Bool). b && sameAs (take 48 (a .bytes .now)) (headerOf (a .s))) (sym (c .before .before .before .before .if1 .taken) ∙ t .before .fits2 .ensures)
+    ∙ ap (λ (b : Bool). b && sameAs (take 48 (a .bytes .now)) (fuseHeader (a .s))) (sym (c .before .before .before .before .if1 .taken) ∙ t .before .fits2 .ensures)
 
 returns-2 : tie.Need-returns-2
 unfolding fuseLaid
 returns-2 c =
     let a = c .before .before .before .args in
-    ap (λ (b : Bool). b && sameAs (take 48 (a .bytes .now)) (headerOf (a .s))) (sym (c .if1 .left) ∙ c .before .fits2 .ensures)
+    ap (λ (b : Bool). b && sameAs (take 48 (a .bytes .now)) (fuseHeader (a .s))) (sym (c .if1 .left) ∙ c .before .fits2 .ensures)
 
 pub is-fuse-spec : {M : Type 1} → statement M
 is-fuse-spec =

@@ -4,7 +4,7 @@ use mathlib.Core.Path.{_≡_, sym, _∙_}
 use mathlib.Core.Logic.{⊎-elim}
 use native.Mathlib.Omega.{arith}
 use lib.ListN.{length}
-use Rattle.laws.specs.Cases.{eq-or-ne}
+use Rattle.laws.proofs.Cases.{eq-or-ne}
 use Rattle.records.specs.Places.{firstVersion}
 use Rattle.records.proofs.RuleLaws.{key-short, key-long, key-out, key-none, key-falls, key-passes}
 use borrow.Author.Needs.{needs}

@@ -1,0 +1,9 @@
+pub mod Cases
+pub mod CountLaws
+pub mod EachLaws
+pub mod Lists
+pub mod PigeonholeLaws
+pub mod PowerLaws
+pub mod RefusalLaws
+pub mod StepsLaws
+pub mod XorLaws
