@@ -100,7 +100,7 @@ impl PointBuilder {
     }
 
     // Whether a key is greater than the last, if there is one.
-    fn risesAfter(self, buffer: &[u8], key: &[u8]) -> bool
+    fn rises(self, buffer: &[u8], key: &[u8]) -> bool
         requires { ⌜ fits self (now buffer) ≡ true ⌝ }
         ensures { λ r. ⌜ r ≡ risesAfter self (lastOf self (now (buffer .entry))) (now (key .entry)) ⌝ }
     {

@@ -104,7 +104,7 @@ struct Progress {
 }
 
 // One step: the last cell of the queue is taken, and its one hash peeled if there is exactly one.
-fn oneStep(wide: &mut [u64], narrow: &mut [u32], g: Graph, at: Progress) -> Progress
+fn step(wide: &mut [u64], narrow: &mut [u32], g: Graph, at: Progress) -> Progress
     requires { ⌜ GraphWhole g ⌝ }
     requires { ⌜ ((hs : List ℕ) × (s : Attempt) × StandsFor (positionsOf (g .segment) (g .count)) (g .cells) hs s (now wide) (now narrow) (at .top) (at .peeled)) ⌝ }
     ensures { λ r. ⌜ ((hs : List ℕ) (s : Attempt) → StandsFor (positionsOf (g .segment) (g .count)) (g .cells) hs s (now (wide .entry)) (now (narrow .entry)) (at .top) (at .peeled)
@@ -144,7 +144,7 @@ fn peel_all(wide: &mut [u64], narrow: &mut [u32], g: Graph, top: usize) -> usize
     let mut at = Progress { top, peeled: 0 };
     let mut turn = 0;
     while turn < g.cells {
-        at = oneStep(wide, narrow, g, at);
+        at = step(wide, narrow, g, at);
         turn += 1;
     }
     at.peeled
