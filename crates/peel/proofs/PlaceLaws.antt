@@ -18,20 +18,20 @@ use Rattle.fuse.proofs.AskLaws.{graph-lt}
 use Rattle.fuse.proofs.PositionLaws.{cell-below, cell-apart, position-at, positions-length}
 use Rattle.peel.specs.Sound.{Placed}
 
-pub positions-placed : (segment count h : ℕ) → Usable segment occurs → h < 2 ^ 64 → Placed (cellsIn segment occurs) (positionsOf segment occurs) h
-positions-placed segment occurs h u b =
+pub positions-placed : (segment count h : ℕ) → Usable segment count → h < 2 ^ 64 → Placed (cellsIn segment count) (positionsOf segment count) h
+positions-placed segment count h u b =
     record {
-      apart = occurs-apart (positionsOf segment occurs h)
-          (λ i j hi hj e. cell-apart segment occurs u h i j (sym (at i hi) ∙ e ∙ at j hj));
-      below = λ v k. occurs-none v (positionsOf segment occurs h)
-          (λ i hi e. omega (arith, at i hi, cell-below segment occurs u h b i (inside i hi)));
+      apart = occurs-apart (positionsOf segment count h)
+          (λ i j hi hj e. cell-apart segment count u h i j (sym (at i hi) ∙ e ∙ at j hj));
+      below = λ v k. occurs-none v (positionsOf segment count h)
+          (λ i hi e. omega (arith, at i hi, cell-below segment count u h b i (inside i hi)));
     }
   where
-    inside : (i : ℕ) → i < length (positionsOf segment occurs h) → i < 4
-    inside i hi = omega (arith, positions-length segment occurs h)
+    inside : (i : ℕ) → i < length (positionsOf segment count h) → i < 4
+    inside i hi = omega (arith, positions-length segment count h)
 
-    at : (i : ℕ) → i < length (positionsOf segment occurs h) → getD (positionsOf segment occurs h) i 0 ≡ cellOf segment occurs h i
-    at i hi = position-at segment occurs h i (inside i hi)
+    at : (i : ℕ) → i < length (positionsOf segment count h) → getD (positionsOf segment count h) i 0 ≡ cellOf segment count h i
+    at i hi = position-at segment count h i (inside i hi)
 
 -- sizes that belong together: the number of cells fits 32 bits, and each mixed hash has its four cells
 pub whole-small : (g : Graph) → GraphWhole g → g .cells < 2 ^ 32

@@ -65,5 +65,5 @@ pub record StandsFor (pos : ℕ → List ℕ) (c : ℕ) (hs : List ℕ) (s : Att
 
 -- an attempt's outcome: whether every hash was peeled; the cells filled if so, and else left as they were
 pub record AttemptPost (segment count seed : ℕ) (hashes before after : List ℕ) (r : Bool) : Type 0 where
-  pub answer : r ≡ succeeds segment occurs seed hashes
-  pub cells : after ≡ cond (succeeds segment occurs seed hashes) (cellsLaid segment occurs seed hashes) before
+  pub answer : r ≡ succeeds segment count seed hashes
+  pub cells : after ≡ cond (succeeds segment count seed hashes) (cellsLaid segment count seed hashes) before

@@ -61,7 +61,7 @@ unfolding sizesOf
 sized-for hashes s F = record {
   keys = ap (λ (x : Sizes). x .keys) (F .sizes);
   segment = ap (λ (x : Sizes). x .segment) (F .sizes);
-  occurs = ap (λ (x : Sizes). x .count) (F .sizes);
+  count = ap (λ (x : Sizes). x .count) (F .sizes);
   enough = F .enough;
 }
 

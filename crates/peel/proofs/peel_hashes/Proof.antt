@@ -15,11 +15,11 @@ use Rattle.peel.proofs.peel_hashes.Statement.{statement}
 use Rattle.peel.proofs.peel_hashes.Tie as tie
 
 -- the workspace where the peeling begins
-begun : (k : tie.After-slice-known7)
+ready : (k : tie.After-slice-known7)
     → (let a = k .before .before .before .before .before .before .before .before .before .before .before .before .before .before .before .before .before .before .before .before .before .before .args in
     StandsFor (positionsOf (a .g .segment) (a .g .count)) (a .g .cells) (mixed (a .g .seed) (a .hashes .now)) (begun (positionsOf (a .g .segment) (a .g .count)) (a .g .cells) (mixed (a .g .seed) (a .hashes .now)))
     (k .before .before .before .before .before .before .before .before .load .last .1 .0) (k .before .before .queue-ones .last .0) (k .before .before .queue-ones .result) 0)
-begun k =
+ready k =
     let s = k .before .before .before .before .before .before .before .before .before .before .before .before .before .before .before .before .before .before .before .before .before .before in
     let a = s .args in
     let m = length-map (a .hashes .now) (graphHash (a .g .seed)) in
@@ -46,10 +46,10 @@ queue-ones-requires : tie.Need-queue-ones-requires
 queue-ones-requires c κs = let s = c .before .before .before .before .before .before .before .before .before .before .before .before .before .before .before .before .before .before .before in (omega (arith, whole-small (s .args .g) (s .pre .0)), search needs)
 
 peel-all-requires : tie.Need-peel-all-requires
-peel-all-requires c κs = let s = c .before .before .before .before .before .before .before .before .before .before .before .before .before .before .before .before .before .before .before .before .before .before .before .before in (s .pre .0, (mixed (s .args .g .seed) (s .args .hashes .now), begun (c .before .before)))
+peel-all-requires c κs = let s = c .before .before .before .before .before .before .before .before .before .before .before .before .before .before .before .before .before .before .before .before .before .before .before .before in (s .pre .0, (mixed (s .args .g .seed) (s .args .hashes .now), ready (c .before .before)))
 
 returns : tie.Need-returns
-returns c = let a = c .before .before .before .before .before .before .before .before .before .before .before .before .before .before .before .before .before .before .before .before .before .before .before .before .before .before .before .before .before .args in c .before .before .before .before .peel-all .ensures (mixed (a .g .seed) (a .hashes .now)) (begun (c .before .before .before .before .before .before .before))
+returns c = let a = c .before .before .before .before .before .before .before .before .before .before .before .before .before .before .before .before .before .before .before .before .before .before .before .before .before .before .before .before .before .args in c .before .before .before .before .peel-all .ensures (mixed (a .g .seed) (a .hashes .now)) (ready (c .before .before .before .before .before .before .before))
 
 pub peel-hashes-spec : {M : Type 1} → statement M
 peel-hashes-spec =
