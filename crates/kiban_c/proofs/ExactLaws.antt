@@ -41,7 +41,7 @@ use Rattle.filter.specs.Reading.{readOf, readRefusal, readValues}
 use Rattle.filter.specs.Building.{builtRefusal, builtValues, hashesBy, spaceBy, outBy}
 use Rattle.lines.specs.declared.Listed.the-variants.{Text, Refused}
 use Rattle.lines.specs.Listing.{listedOf, bufferOf, listedNumber, listedValues}
-use Rattle.kiban_c.specs.Lent.{answerShort, numberBy, leftBy}
+use Rattle.kiban_c.specs.Lent.{SixFirst, answerShort, numberBy, leftBy}
 use Rattle.kiban_c.specs.SortCalls.{SortCall}
 use Rattle.kiban_c.specs.BuilderCalls.{stateOf, flagOf, addCalled, AddCall, SetOffsetCall}
 use Rattle.kiban_c.specs.FinishCalls.{finishCalled, FinishCall}
@@ -52,11 +52,6 @@ use Rattle.kiban_c.proofs.LentLaws.{first-number, none-number, short, e
 use Rattle.kiban_c.proofs.BuilderCallLaws.{add-short, add-stateless, add-kindless, add-passed, set-stateless, set-passed}
 
 -- ---- what all calls share
-
--- 6 for an answer shorter than said, before all else; with as much as said, the call's own number
-pub record SixFirst (answer : List ℕ) (said own r : ℕ) : Type 0 where
-  pub shorter : length answer < said → r ≡ 6
-  pub enough-lent : said ≤ length answer → r ≡ own
 
 six-first : {answer : List ℕ} {said own r : ℕ} → r ≡ numberBy (answerShort answer said ∷ []) own → SixFirst answer said own r
 six-first {answer} {said} {own} p = record {

@@ -1,5 +1,6 @@
 -- What the boundary checks before a call's own checks, and what that leaves of the call: its number, and each list lent to it.
-use Prim.Native.Nat.{ℕ}
+use Prim.Native.Nat.{ℕ, _<_, _≤_}
+use mathlib.Core.Path.{_≡_}
 use mathlib.Core.Bool.{cond}
 use mathlib.Core.List.{List}
 use lib.Dec.{ltb, eqb}
@@ -26,3 +27,8 @@ numberBy checks own = orElse (firstOf checks) own
 -- a lent list after it: as it was where a check holds, else as the call itself leaves it
 unfoldable pub leftBy : (checks : List Cause) (before after : List ℕ) → List ℕ
 leftBy checks before after = cond (eqb (firstOf checks) 0) after before
+
+-- 6 for an answer shorter than said, before all else; with as much as said, the call's own number
+pub record SixFirst (answer : List ℕ) (said own r : ℕ) : Type 0 where
+  pub shorter : length answer < said → r ≡ 6
+  pub enough-lent : said ≤ length answer → r ≡ own

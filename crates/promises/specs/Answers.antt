@@ -1,27 +1,126 @@
 -- The last paragraph of document 01: the number and values of each answer that is an enum, in its cases that are no refusal; and that there is
--- no other number. What each number above 0 is given for stands in `Refused`.
+-- no other number. What each number above 0 is given for stands in `Refused`. A record for each answer; `Answers` says that all hold.
+use Prim.Native.Nat.{ℕ, _+_, _^_, _<_, _≤_}
+use mathlib.Core.Path.{_≡_}
+use mathlib.Core.Bool.{Bool, true, cond}
+use mathlib.Core.List.{List, [], _∷_, _++_}
+use mathlib.Core.Logic.{_⊎_}
+use mathlib.Core.Option.{none, some}
+use lib.ListN.{length, take}
+use Rattle.laws.specs.Refusals.{First, None}
+use Rattle.words.specs.Field.{splice}
+use Rattle.records.specs.declared.Kind.{Kind}
+use Rattle.records.specs.declared.Limit.{Limit}
+use Rattle.records.specs.declared.Record.{Record}
+use Rattle.records.specs.Model.{kindByte}
+use Rattle.records.specs.Places.{firstVersion, versionCount}
+use Rattle.builder.specs.declared.PointBuilder.{PointBuilder}
+use Rattle.builder.specs.State.{fits, lastOf, roomOf}
+use Rattle.builder.specs.Add.{addCauses, addOf, addedNumber, stateValues, addedValues, nextState, nextPlace}
+use Rattle.construct.specs.declared.Constructed.{Constructed}
+use Rattle.construct.specs.Construct.{Placing, attemptOf, constructOf}
+use Rattle.construct.specs.Layout.{constructedNumber, constructedValues, ConstructPost}
+use Rattle.finish.specs.Finish.{keysOf, bodyLength, finishOf, finishedNumber, finishedValues}
+use Rattle.point.specs.declared.Located.{Located}
+use Rattle.point.specs.declared.Opened.{Opened}
+use Rattle.point.specs.declared.Answer.the-variants.{Found, Nothing}
+use Rattle.point.specs.Get.{locateOf, openRecordOf, openOf, getOf, locatedNumber, locatedValues, openedNumber, openedValues, answerNumber, answerValues}
+use Rattle.point.specs.Causes.{Leads, RecordOpens, Opens}
+use Rattle.fuse.specs.declared.Sizes.{Sizes}
+use Rattle.fuse.specs.Layout.{positiveBytes, fuseHeader, Accepted}
+use Rattle.fuse.specs.Asking.{containsOf}
+use Rattle.filter.specs.declared.SstFilter.{SstFilter}
+use Rattle.filter.specs.declared.Written.{Written}
+use Rattle.filter.specs.declared.Built.{Built}
+use Rattle.filter.specs.declared.Built.the-variants.{Refused}
+use Rattle.filter.specs.Reading.{readOf, readRefusal, readValues, acceptable}
+use Rattle.filter.specs.Asking.{askOf, askNumber}
+use Rattle.filter.specs.Writing.{bytesFor, writeRefusal, writtenValues, WritePost}
+use Rattle.filter.specs.Building.{builtRefusal, lengthBy, builtValues, BuildPost}
+use Rattle.lines.specs.declared.Listed.{Listed}
+use Rattle.lines.specs.Shown.{Rule}
+use Rattle.lines.specs.Listing.{textOf, listedNumber, listedValues, Listing}
 
 -- builder::Added: 0, the next state's words and the patch place; a refusal has no values
-pub use Rattle.builder.proofs.Answers.{taken-values as add-values, refused-values as add-refused-values}
+pub record AddAnswers (s : PointBuilder) (buffer key : List ℕ) (kind : Kind) (size sequence : ℕ) (newKey : Bool) : Type 0 where
+  pub add-values : None (addCauses s (fits s buffer) (lastOf s buffer) (roomOf s buffer) key kind size sequence newKey)
+      → (addedNumber (addOf s buffer key kind size sequence newKey) ≡ 0)
+      × (stateValues (addOf s buffer key kind size sequence newKey) ≡ nextState s key newKey .used ∷ nextState s key newKey .keys ∷ nextState s key newKey .head ∷ [])
+      × (addedValues (addOf s buffer key kind size sequence newKey) ≡ nextPlace s key newKey ∷ [])
+  pub add-refused-values : (n : ℕ) → First n (addCauses s (fits s buffer) (lastOf s buffer) (roomOf s buffer) key kind size sequence newKey)
+      → (stateValues (addOf s buffer key kind size sequence newKey) ≡ []) × (addedValues (addOf s buffer key kind size sequence newKey) ≡ [])
+
 -- construct::Constructed: 0 and the attempt, or 10
-pub use Rattle.construct.proofs.Exhausting.{taken-values as construct-values, ten-values as construct-refused-values, ten-fails, fails-ten}
--- finish::Finished: 0 and the body's length
-pub use Rattle.finish.proofs.Answers.{finish-values}
+pub record ConstructAnswers (hashes : ℕ → List ℕ) (r : Constructed) : Type 0 where
+  pub construct-values : (i : ℕ) (pl : Placing) → constructOf hashes ≡ some (i, pl) → (constructedNumber r ≡ 0) × (constructedValues r ≡ i ∷ [])
+  pub construct-refused-values : constructedNumber r ≡ 10 → constructedValues r ≡ []
+  pub ten-fails : constructedNumber r ≡ 10 → (i : ℕ) → i < 8 → attemptOf (hashes i) ≡ none
+  pub fails-ten : ((i : ℕ) → i < 8 → attemptOf (hashes i) ≡ none) → constructedNumber r ≡ 10
+
 -- point::Located: 0 and the place, exactly where the key's slot leads there; else 1, or 14
-pub use Rattle.point.proofs.AnswerLaws.{locate-place, place-locate, locate-numbers, unlocated-values}
+pub record LocateAnswers (body key : List ℕ) : Type 0 where
+  pub locate-place : locatedNumber (locateOf body key) ≡ 0 → (p : ℕ) × (Leads body key p × (p ≤ length body) × (locatedValues (locateOf body key) ≡ p ∷ []))
+  pub place-locate : (p : ℕ) → Leads body key p → p ≤ length body → (locatedNumber (locateOf body key) ≡ 0) × (locatedValues (locateOf body key) ≡ p ∷ [])
+  pub locate-numbers : (locatedNumber (locateOf body key) ≡ 0) ⊎ ((locatedNumber (locateOf body key) ≡ 1) ⊎ (locatedNumber (locateOf body key) ≡ 14))
+  pub unlocated-values : (l : Located) → 0 < locatedNumber l → locatedValues l ≡ []
+
 -- point::Opened: 0, where the first version stands and how many there are, exactly where the key's record opens; else 1, or 14
-pub use Rattle.point.proofs.AnswerLaws.{open-record, record-open, open-numbers, unopened-values}
+pub record OpenAnswers (body key : List ℕ) : Type 0 where
+  pub open-record : openedNumber (openOf body key) ≡ 0 → (p : ℕ) × (Opens body key p × (openedValues (openOf body key) ≡ firstVersion body p ∷ versionCount body p ∷ []))
+  pub record-open : (p : ℕ) → Opens body key p → (openedNumber (openOf body key) ≡ 0) × (openedValues (openOf body key) ≡ firstVersion body p ∷ versionCount body p ∷ [])
+  pub open-numbers : (openedNumber (openOf body key) ≡ 0) ⊎ ((openedNumber (openOf body key) ≡ 1) ⊎ (openedNumber (openOf body key) ≡ 14))
+  pub unopened-values : (o : Opened) → 0 < openedNumber o → openedValues o ≡ []
+
 -- and of the record at a place: 0 exactly where it is the key's, else 1, or 14
-pub use Rattle.point.proofs.AnswerLaws.{record-versions, versions-record, record-numbers}
+pub record RecordAnswers (body key : List ℕ) (p : ℕ) : Type 0 where
+  pub record-versions : openedNumber (openRecordOf body p key) ≡ 0 → RecordOpens body key p × (openedValues (openRecordOf body p key) ≡ firstVersion body p ∷ versionCount body p ∷ [])
+  pub versions-record : RecordOpens body key p → (openedNumber (openRecordOf body p key) ≡ 0) × (openedValues (openRecordOf body p key) ≡ firstVersion body p ∷ versionCount body p ∷ [])
+  pub record-numbers : (openedNumber (openRecordOf body p key) ≡ 0) ⊎ ((openedNumber (openRecordOf body p key) ≡ 1) ⊎ (openedNumber (openRecordOf body p key) ≡ 14))
+
 -- point::Answer: 0 and kind, sequence, offset, length, exactly for a record found; 1 exactly for nothing; else 14
-pub use Rattle.point.proofs.AnswerLaws.{get-record, record-get, get-nothing, nothing-get, get-numbers}
--- filter::SstFilter: 0 and six zeros for the Positive layout; 0 and 1, keys, seed, segment, count, cells for the Fuse layout
-pub use Rattle.filter.proofs.ExactLaws.{positive-values, fuse-values}
--- filter::Answer: 1 for every hash of a Positive filter; of a Fuse filter 1 or 0 as its cells say
-pub use Rattle.filter.proofs.ExactLaws.{positive-number, fuse-number}
+pub record GetAnswers (body : List ℕ) (size : ℕ) (key : List ℕ) (limit : Limit) : Type 0 where
+  pub get-record : answerNumber (getOf body size key limit) ≡ 0 → (r : Record) × (getOf body size key limit ≡ Found r)
+  pub record-get : (r : Record) → getOf body size key limit ≡ Found r
+      → (answerNumber (getOf body size key limit) ≡ 0) × (answerValues (getOf body size key limit) ≡ kindByte (r .kind) ∷ r .sequence ∷ r .offset ∷ r .length ∷ [])
+  pub get-nothing : answerNumber (getOf body size key limit) ≡ 1 → getOf body size key limit ≡ Nothing
+  pub nothing-get : getOf body size key limit ≡ Nothing → answerNumber (getOf body size key limit) ≡ 1
+  pub get-numbers : (answerNumber (getOf body size key limit) ≡ 0) ⊎ ((answerNumber (getOf body size key limit) ≡ 1) ⊎ (answerNumber (getOf body size key limit) ≡ 14))
+
 -- filter::Written: 0 and the bytes written, exactly where reading accepts the filter and there is room
-pub use Rattle.filter.proofs.WrittenLaws.{whole-written, written-whole, refused-unwritten}
+pub record WriteAnswers (f : SstFilter) (cells out : List ℕ) (r : Written) (after : List ℕ) : Type 0 where
+  pub whole-written : acceptable f (length cells) ≡ true → 48 + length cells ≤ length out
+      → (writeRefusal r ≡ 0) × (writtenValues r ≡ (48 + length cells) ∷ []) × (after ≡ splice out 0 (bytesFor f cells))
+  pub written-whole : writeRefusal r ≡ 0 → (acceptable f (length cells) ≡ true) × (48 + length cells ≤ length out)
+  pub refused-unwritten : 0 < writeRefusal r → writtenValues r ≡ []
+
 -- filter::Built: 0 and the bytes written (and `Filter`)
-pub use Rattle.filter.proofs.BuiltLaws.{zero-accepts, built-values}
--- lines::Listed: 0 and the text's length, where there is room
-pub use Rattle.lines.proofs.Theorems.{room-values}
+pub record BuildAnswers (r : Built) (out' : List ℕ) : Type 0 where
+  pub zero-accepts : builtRefusal r ≡ 0 → (q : ℕ) → r ≡ Refused q → ⊥
+  pub built-values : ((q : ℕ) → r ≡ Refused q → ⊥) → builtValues r ≡ length (take (lengthBy r) out') ∷ []
+
+-- every answer
+pub record Answers : Type 0 where
+  pub add : (s : PointBuilder) (buffer key : List ℕ) (kind : Kind) (size sequence : ℕ) (newKey : Bool) → AddAnswers s buffer key kind size sequence newKey
+  pub construct : {hashes : ℕ → List ℕ} {n : ℕ} {wide narrow : List ℕ} {r : Constructed} → ConstructPost hashes n wide narrow r → ConstructAnswers hashes r
+  -- finish::Finished: 0 and the body's length
+  pub finish-values : (arena : List ℕ) (out wide narrow : ℕ)
+      → finishedNumber (finishOf arena out wide narrow) ≡ 0 → finishedValues (finishOf arena out wide narrow) ≡ bodyLength arena (keysOf arena) ∷ []
+  pub locating : (body key : List ℕ) → LocateAnswers body key
+  pub opening : (body key : List ℕ) → OpenAnswers body key
+  pub opening-record : (body key : List ℕ) (p : ℕ) → RecordAnswers body key p
+  pub getting : (body : List ℕ) (size : ℕ) (key : List ℕ) (limit : Limit) → GetAnswers body size key limit
+  -- filter::SstFilter: 0 and six zeros for the Positive layout; 0 and 1, keys, seed, segment, count, cells for the Fuse layout
+  pub positive-values : (readRefusal (readOf positiveBytes) ≡ 0) × (readValues (readOf positiveBytes) ≡ 0 ∷ 0 ∷ 0 ∷ 0 ∷ 0 ∷ 0 ∷ [])
+  pub fuse-values : (s : Sizes) (cells : List ℕ) → Accepted s (length cells) → s .seed < 2 ^ 64
+      → (readRefusal (readOf (fuseHeader s ++ cells)) ≡ 0)
+      × (readValues (readOf (fuseHeader s ++ cells)) ≡ 1 ∷ s .keys ∷ s .seed ∷ s .segment ∷ s .count ∷ length cells ∷ [])
+  -- filter::Answer: 1 for every hash of a Positive filter; of a Fuse filter 1 or 0 as its cells say
+  pub positive-number : (hash : ℕ) → askNumber (askOf positiveBytes hash) ≡ 1
+  pub fuse-number : (s : Sizes) (cells : List ℕ) → Accepted s (length cells) → s .seed < 2 ^ 64 → (hash : ℕ)
+      → askNumber (askOf (fuseHeader s ++ cells) hash) ≡ cond (containsOf cells s hash) 1 0
+  pub write : {f : SstFilter} {cells out : List ℕ} {r : Written} {after : List ℕ} → WritePost f cells out r after → WriteAnswers f cells out r after
+  pub build : {hashes wide narrow out : List ℕ} {r : Built} {hashes' wide' narrow' out' : List ℕ}
+      → BuildPost hashes wide narrow out r hashes' wide' narrow' out' → BuildAnswers r out'
+  -- lines::Listed: 0 and the text's length, where there is room
+  pub room-values : {rule : Rule} {input before : List ℕ} {r : Listed} {after : List ℕ} → Listing rule input before r after → length (textOf rule input) ≤ length before
+      → (listedNumber r ≡ 0) × (listedValues r ≡ length (textOf rule input) ∷ []) × (after ≡ splice before 0 (textOf rule input))

@@ -1,21 +1,18 @@
--- The figures at the edges of document 01, P1 to P9, as one table over the written rules. Assumes nothing.
+-- The figures at the edges of document 01, P1 to P9, as one table over the written rules.
 use Prim.Native.Nat.{ℕ, _-_, _^_}
-use mathlib.Core.Path.{_≡_, refl}
+use mathlib.Core.Path.{_≡_}
 use mathlib.Core.List.{List, [], _∷_}
 use lib.ListN.{length}
-use Rattle.words.specs.Field.{spelled, le}
 use Rattle.layout.specs.Layout.{arenaIn}
-use Rattle.records.specs.Places.{entryPlace}
 use Rattle.records.specs.Example.{exampleArena}
 use Rattle.construct.specs.Construct.{bucketsOf}
 use Rattle.point.specs.Table.{keyPlace}
 use Rattle.finish.specs.declared.Finished.the-variants.{Body}
 use Rattle.finish.specs.Body.{arenaStart}
 use Rattle.finish.specs.Finish.{keysOf, finishOf}
-use Rattle.fuse.specs.Positions.{firstCell, cellOf, positionsOf}
-use Rattle.sizing.specs.Table.{firsts, segments}
-use Rattle.sizing.specs.Sizing.{rule, exponentUpTo, exponentOf, segmentOf, upTo, segmentsOf, cellsOf}
-use Rattle.promises.specs.Example.{exampleBody, example-keys, example-fits}
+use Rattle.fuse.specs.Positions.{positionsOf}
+use Rattle.sizing.specs.Sizing.{segmentOf, segmentsOf, cellsOf}
+use Rattle.promises.specs.Example.{exampleBody}
 
 -- where the record of a body's i-th key begins, counted from the arena start
 abbrev pub recordPlace : List ℕ → ℕ → ℕ
@@ -44,23 +41,3 @@ pub record Figures : Type 0 where
   pub P7 : filterSize 65536 ≡ 512 ∷ 146 ∷ 74752 ∷ []
   pub P8 : positionsOf 1 11 0 ≡ 0 ∷ 1 ∷ 2 ∷ 3 ∷ []
   pub P9 : positionsOf 2 6 (2 ^ 64 - 1) ≡ 11 ∷ 12 ∷ 14 ∷ 16 ∷ []
-
--- THEOREM: all of them hold
-pub figures : Figures
-unfolding bucketsOf arenaStart exampleBody le spelled keyPlace entryPlace filterSize segmentOf segmentsOf cellsOf exponentOf exponentUpTo rule upTo firsts segments positionsOf cellOf firstCell
-figures = record {
-  P1 = refl;
-  P2 = refl;
-  P3-keys = example-keys;
-  P3-finished = example-fits;
-  P3-body = refl;
-  P3-records = refl;
-  P4-one = refl;
-  P4-two = refl;
-  P4-three = refl;
-  P5 = refl;
-  P6 = refl;
-  P7 = refl;
-  P8 = refl;
-  P9 = refl;
-}

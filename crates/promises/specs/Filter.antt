@@ -1,39 +1,30 @@
--- Demand 3 of a filter: what was built of a set of hashes is read with its sizes and keys, and never calls one of them absent, at the C
--- boundary too; the queue's bound, the sizing rule, and that accepted bytes written again are the same bytes. Assumes nothing.
-use Prim.Native.Nat.{ℕ, _+_, _*_, _≤_, _<_}
-use native.Mathlib.Omega.{arith}
-use mathlib.Core.Path.{_≡_, refl, sym, ap, _∙_}
-use mathlib.Core.List.{List, [], _∷_, map}
-use borrow.Author.Tests.{le-ltb}
-use lib.ListN.{length, take, getD, length-map, List·getD-append}
-use Rattle.laws.specs.Refusals.{firstOf}
-use Rattle.laws.proofs.RefusalLaws.{orElse-zero}
+-- Demand 3, "a filter built from a set of hashes never calls one of them absent", at the C boundary too; and document 01's bound on the queue, its
+-- rule over the sizing table, and that accepted bytes written again are the same bytes.
+use Prim.Native.Nat.{ℕ, _+_, _*_, _^_, _≤_, _<_}
+use mathlib.Core.Path.{_≡_}
+use mathlib.Core.Bool.{true}
+use mathlib.Core.List.{List, [], _∷_}
+use lib.ListN.{length, take, drop, getD}
 use Rattle.laws.specs.Count.{occurs}
-use Rattle.laws.proofs.Lists.{map-at}
 use Rattle.words.specs.Field.{splice}
-use Rattle.words.proofs.PartLaws.{splice-front}
 use Rattle.mixing.specs.Mixing.{mixOf}
 use Rattle.fuse.specs.declared.Sizes.{Sizes}
-use Rattle.fuse.specs.Positions.{cellsIn, Usable}
-use Rattle.sizing.specs.Table.{mostHashes}
-use Rattle.sizing.specs.Sizing.{sizesOf}
-use Rattle.sizing.proofs.SizedLaws.{usable}
+use Rattle.fuse.specs.Positions.{cellsIn}
+use Rattle.sizing.specs.Table.{mostHashes, firsts}
+use Rattle.sizing.specs.Sizing.{segmentsOf, cellsOf, sizesOf, risesStrictly, RowRule}
 use Rattle.sort.specs.Sort.{sorted}
 use Rattle.peel.specs.Peel.{Attempt, afterSteps}
-use Rattle.peel.proofs.AttemptLaws as peeling
+use Rattle.filter.specs.declared.SstFilter.{SstFilter}
+use Rattle.filter.specs.declared.SstFilter.the-variants.{Refused}
+use Rattle.filter.specs.declared.Written.{Written}
+use Rattle.filter.specs.declared.Written.the-variants.{Length}
 use Rattle.filter.specs.declared.Built.{Built}
-use Rattle.filter.specs.declared.Built.the-variants.{Positive, Fuse, Refused}
-use Rattle.filter.specs.Reading.{readOf, readRefusal}
+use Rattle.filter.specs.declared.Built.the-variants.{Fuse}
+use Rattle.filter.specs.Reading.{readOf}
 use Rattle.filter.specs.Asking.{askOf, askNumber}
-use Rattle.filter.specs.Building.{builtRefusal, lengthBy, builtValues, BuildPost, FilterOf, asRead}
-use Rattle.filter.proofs.BuiltLaws.{zero-accepts, filter-cause, built-values, built-reads, never-absent}
-use Rattle.kiban_c.specs.Lent.{numberBy, leftBy}
-use Rattle.kiban_c.specs.FilterCalls.{buildCalled, filterBuildChecks, FilterBuildCall, filterAskOf, askAllValues, filterAskAllChecks, FilterAskAllCall}
--- the rule over the table of segment counts: first counts rise strictly from 1, segments are at least 4, and at each row's last n (so at each
--- n) 40 × cells ≥ 43 × n
-pub use Rattle.sizing.proofs.SizedLaws.{firsts-rise, firsts-from, segments-within, row-rule, cells-enough}
--- accepted bytes written again are the same bytes
-pub use Rattle.filter.proofs.ExactLaws.{same-again, written-again}
+use Rattle.filter.specs.Writing.{bytesFor, WritePost}
+use Rattle.filter.specs.Building.{builtRefusal, lengthBy, builtValues, BuildPost, asRead}
+use Rattle.kiban_c.specs.FilterCalls.{FilterBuildCall, filterAskOf, FilterAskAllCall}
 
 -- ---- build
 
@@ -50,105 +41,30 @@ pub record SizedFor (hashes : List ℕ) (s : Sizes) : Type 0 where
 
 -- what stands in the output for the hashes: as many bytes as the answer says, read as what was built, with the right sizes; and each of the
 -- hashes is maybe there (1)
-pub record Stands (hashes : List ℕ) (r : Built) (out : List ℕ) : Type 0 where
+pub record FilterStands (hashes : List ℕ) (r : Built) (out : List ℕ) : Type 0 where
   pub values : builtValues r ≡ length (filterBytes r out) ∷ []
   pub read : readOf (filterBytes r out) ≡ asRead r
   pub sized : (s : Sizes) → r ≡ Fuse s → SizedFor hashes s
   pub present : (hash : ℕ) → 1 ≤ occurs hash hashes → askNumber (askOf (filterBytes r out) hash) ≡ 1
 
-sized-for : (hashes : List ℕ) (s : Sizes) → FilterOf hashes s → SizedFor hashes s
-unfolding sizesOf
-sized-for hashes s F = record {
-  keys = ap (λ (x : Sizes). x .keys) (F .sizes);
-  segment = ap (λ (x : Sizes). x .segment) (F .sizes);
-  count = ap (λ (x : Sizes). x .count) (F .sizes);
-  enough = F .enough;
-}
-
--- THEOREM: whatever meets build's contract with the number 0 stands for its hashes
-pub filter-stands : {hashes wide narrow out : List ℕ} {r : Built} {hashes' wide' narrow' out' : List ℕ} → BuildPost hashes wide narrow out r hashes' wide' narrow' out'
-    → builtRefusal r ≡ 0 → Stands hashes r out'
-filter-stands {hashes} {wide} {narrow} {out} {r} P z =
-    let n = zero-accepts P z in
-    record {
-      values = built-values P n;
-      read = built-reads P n;
-      sized = λ s e. sized-for hashes s (filter-cause P s e);
-      present = λ hash k. ap askNumber (never-absent P n hash k);
-    }
-
--- ---- the C boundary
-
--- the length in the answer's front, and what is asked of what was built
-length-front : (b : Built) (answer : List ℕ) → ((q : ℕ) → b ≡ Refused q → ⊥) → getD (splice answer 0 (builtValues b)) 0 0 ≡ lengthBy b
-length-front Positive answer n = ap (λ (l : List ℕ). getD l 0 0) (splice-front answer (builtValues Positive))
-length-front (Fuse s) answer n = ap (λ (l : List ℕ). getD l 0 0) (splice-front answer (builtValues (Fuse s)))
-length-front (Refused q) answer n = absurd (n q refl)
-
-asks-each : (b : Built) (bytes asked : List ℕ) → ((q : ℕ) → b ≡ Refused q → ⊥)
-    → (readRefusal (asRead b) ≡ 0) × (askAllValues (asRead b) bytes asked ≡ map (filterAskOf bytes) asked)
-asks-each Positive bytes asked n = (refl, refl)
-asks-each (Fuse s) bytes asked n = (refl, refl)
-asks-each (Refused q) bytes asked n = absurd (n q refl)
-
-module _ {hashes wide narrow out answer hashes' wide' narrow' out' answer' : List ℕ}
-    (P : FilterBuildCall hashes wide narrow out answer 0 hashes' wide' narrow' out' answer') where
-  no-refusal : (firstOf (filterBuildChecks answer) ≡ 0) × (builtRefusal (buildCalled hashes wide narrow out) ≡ 0)
-  unfolding numberBy
-  no-refusal = orElse-zero _ _ (sym (P .number))
-
-  own : (before after : List ℕ) → leftBy (filterBuildChecks answer) before after ≡ after
-  unfolding leftBy
-  own before after = rw (no-refusal .0)
-
-  post : BuildPost hashes wide narrow out (buildCalled hashes wide narrow out) hashes' wide' narrow' out'
-  post = record {
-    answer = refl;
-    hashes-after = P .hashes-after ∙ own _ _;
-    wide-after = P .wide-after ∙ own _ _;
-    narrow-after = P .narrow-after ∙ own _ _;
-    out-after = P .out-after ∙ own _ _;
-  }
-
-  taken : (q : ℕ) → buildCalled hashes wide narrow out ≡ Refused q → ⊥
-  taken = zero-accepts post (no-refusal .1)
-
-  stands : Stands hashes (buildCalled hashes wide narrow out) out'
-  stands = filter-stands post (no-refusal .1)
-
-  bytes-front : take (getD answer' 0 0) out' ≡ filterBytes (buildCalled hashes wide narrow out) out'
-  bytes-front =
-      ap (λ (n : ℕ). take n out')
-      (ap (λ (l : List ℕ). getD l 0 0) (P .answer-after ∙ own _ _) ∙ length-front (buildCalled hashes wide narrow out) answer taken)
-
-  -- THEOREM: where kiban_filter_build returns 0, kiban_filter_ask on the first answer[0] bytes returns 1 for each of the hashes
-  pub call-present : (hash : ℕ) → 1 ≤ occurs hash hashes → filterAskOf (take (getD answer' 0 0) out') hash ≡ 1
-  call-present hash k = ap (λ (bytes : List ℕ). filterAskOf bytes hash) bytes-front ∙ stands .present hash k
-
-  module _ {asked answers : List ℕ} {r : ℕ} {answers' : List ℕ} (A : FilterAskAllCall (take (getD answer' 0 0) out') asked answers r answers')
-      (room : length asked ≤ length answers) where
-    roomy : firstOf (filterAskAllChecks asked answers) ≡ 0
-    roomy = rw (le-ltb (length answers) (length asked) room)
-
-    each : (readRefusal (readOf (take (getD answer' 0 0) out')) ≡ 0)
-        × (askAllValues (readOf (take (getD answer' 0 0) out')) (take (getD answer' 0 0) out') asked ≡ map (filterAskOf (take (getD answer' 0 0) out')) asked)
-    each = rw (ap readOf bytes-front ∙ stands .read) (asks-each (buildCalled hashes wide narrow out) (take (getD answer' 0 0) out') asked taken)
-
-    -- THEOREM: kiban_filter_ask_all on them returns 0
-    pub call-asked : r ≡ 0
-    unfolding numberBy
-    call-asked = A .number ∙ rw (roomy, each .0)
-
-    -- THEOREM: and answers 1 at the place of each of the hashes
-    pub call-all-present : (i : ℕ) → i < length asked → 1 ≤ occurs (getD asked i 0) hashes → getD answers' i 0 ≡ 1
-    unfolding leftBy
-    call-all-present i l k =
-        let values = map (filterAskOf (take (getD answer' 0 0) out')) asked in
-        let put : answers' ≡ splice answers 0 values = A .answers-after ∙ rw (roomy, each .1) in
-        ap (λ (t : List ℕ). getD t i 0) (put ∙ splice-front answers values)
-        ∙ List·getD-append values _ 0 i (omega (arith, length-map asked (filterAskOf (take (getD answer' 0 0) out'))))
-        ∙ map-at (filterAskOf (take (getD answer' 0 0) out')) asked i l
-        ∙ call-present (getD asked i 0) k
+-- DEMAND 3, of a filter
+pub record OnFilter : Type 0 where
+  -- whatever meets build's contract with the number 0 stands for its hashes
+  pub filter-stands : {hashes wide narrow out : List ℕ} {r : Built} {hashes' wide' narrow' out' : List ℕ} → BuildPost hashes wide narrow out r hashes' wide' narrow' out'
+      → builtRefusal r ≡ 0 → FilterStands hashes r out'
+  -- where kiban_filter_build returns 0, kiban_filter_ask on the first answer[0] bytes returns 1 for each of the hashes
+  pub call-present : {hashes wide narrow out answer hashes' wide' narrow' out' answer' : List ℕ}
+      → FilterBuildCall hashes wide narrow out answer 0 hashes' wide' narrow' out' answer'
+      → (hash : ℕ) → 1 ≤ occurs hash hashes → filterAskOf (take (getD answer' 0 0) out') hash ≡ 1
+  -- kiban_filter_ask_all on them returns 0, given an answer's room for each that is asked
+  pub call-asked : {hashes wide narrow out answer hashes' wide' narrow' out' answer' : List ℕ}
+      → FilterBuildCall hashes wide narrow out answer 0 hashes' wide' narrow' out' answer'
+      → {asked answers : List ℕ} {r : ℕ} {answers' : List ℕ} → FilterAskAllCall (take (getD answer' 0 0) out') asked answers r answers' → length asked ≤ length answers → r ≡ 0
+  -- and answers 1 at the place of each of the hashes
+  pub call-all-present : {hashes wide narrow out answer hashes' wide' narrow' out' answer' : List ℕ}
+      → FilterBuildCall hashes wide narrow out answer 0 hashes' wide' narrow' out' answer'
+      → {asked answers : List ℕ} {r : ℕ} {answers' : List ℕ} → FilterAskAllCall (take (getD answer' 0 0) out') asked answers r answers' → length asked ≤ length answers
+      → (i : ℕ) → i < length asked → 1 ≤ occurs (getD asked i 0) hashes → getD answers' i 0 ≡ 1
 
 -- ---- the queue
 
@@ -160,20 +76,29 @@ attemptAfter hashes i steps = afterSteps (sizesOf (length hashes) .segment) (siz
 abbrev pub cellsTried : (hashes : List ℕ) → ℕ
 cellsTried hashes = cellsIn (sizesOf (length hashes) .segment) (sizesOf (length hashes) .count)
 
-module _ (hashes : List ℕ) (some : 1 ≤ length hashes) (few : length hashes ≤ mostHashes) (i : ℕ) where
-  sizes-usable : Usable (sizesOf (length hashes) .segment) (sizesOf (length hashes) .count)
-  unfolding sizesOf
-  sizes-usable = usable (length hashes) some (omega arith)
-
-  -- THEOREM: the queue holds at most one entry for each cell over a whole attempt: after any number of steps a cell was taken, or waits, once at
-  -- most
+-- the queue "holds at most one entry for each cell over a whole attempt"
+pub record QueueBound (hashes : List ℕ) (i : ℕ) : Type 0 where
+  -- after any number of steps a cell was taken, or waits, once at most
   pub cell-queued-once : (steps cell : ℕ) → occurs cell (attemptAfter hashes i steps .taken) + occurs cell (attemptAfter hashes i steps .queue) ≤ 1
-  cell-queued-once = peeling.cell-queued-once (sizesOf (length hashes) .segment) (sizesOf (length hashes) .count) (mixOf i) sizes-usable (sorted hashes)
-
-  -- THEOREM: so a place for each cell is enough for all that were ever queued
+  -- so a place for each cell is enough for all that were ever queued
   pub queue-fits : (steps : ℕ) → length (attemptAfter hashes i steps .taken) + length (attemptAfter hashes i steps .queue) ≤ cellsTried hashes
-  queue-fits = peeling.queue-fits (sizesOf (length hashes) .segment) (sizesOf (length hashes) .count) (mixOf i) sizes-usable (sorted hashes)
-
-  -- THEOREM: and as many steps as there are cells empty the queue
+  -- and as many steps as there are cells empty the queue
   pub queue-empties : attemptAfter hashes i (cellsTried hashes) .queue ≡ []
-  queue-empties = peeling.queue-empties (sizesOf (length hashes) .segment) (sizesOf (length hashes) .count) (mixOf i) sizes-usable (sorted hashes)
+
+-- ---- sizing, and bytes written again
+
+pub record FilterRules : Type 0 where
+  pub queue : (hashes : List ℕ) → 1 ≤ length hashes → length hashes ≤ mostHashes → (i : ℕ) → QueueBound hashes i
+  -- the rule over the table of segment counts: first counts rise strictly from 1
+  pub firsts-rise : risesStrictly firsts ≡ true
+  pub firsts-from : firsts ≡ 1 ∷ drop 1 firsts
+  -- segments are at least 4, and at each row's last n, 40 × cells ≥ 43 × n
+  pub row-rule : (j : ℕ) → j < length firsts → RowRule j
+  -- and so at each n
+  pub segments-within : (n : ℕ) → 1 ≤ n → n < 2 ^ 64 → (4 ≤ segmentsOf n) × (segmentsOf n ≤ 16383)
+  pub cells-enough : (n : ℕ) → 1 ≤ n → n ≤ mostHashes → 43 * n ≤ 40 * cellsOf n
+  -- accepted bytes written again are the same bytes: as they are put together, and as write puts them
+  pub same-again : (bytes : List ℕ) (filter : SstFilter) → readOf bytes ≡ filter → (filter ≡ Refused → ⊥) → bytesFor filter (drop 48 bytes) ≡ bytes
+  pub written-again : (bytes : List ℕ) (filter : SstFilter) → readOf bytes ≡ filter → (filter ≡ Refused → ⊥)
+      → (out after : List ℕ) (r : Written) → length bytes ≤ length out → WritePost filter (drop 48 bytes) out r after
+      → (r ≡ Length (length bytes)) × (after ≡ splice out 0 bytes)

@@ -1,50 +1,25 @@
 -- Idle indexes are shut out: a finish that answers 10 each time, a get that always says nothing, an index that places only its first key.
--- Assumes nothing.
-use Prim.Native.Nat.{ℕ, _+_, _≤_, _<_}
-use native.Mathlib.Omega.{arith}
-use mathlib.Core.Path.{_≡_, refl, sym, ap, _∙_, subst}
+use Prim.Native.Nat.{ℕ, _≤_, _<_}
+use mathlib.Core.Path.{_≡_}
 use mathlib.Core.List.{List, [], _∷_}
-use mathlib.Core.Logic.{_⊎_, inl, inr}
-use mathlib.Core.Option.{Option·some-ne-none}
+use mathlib.Core.Logic.{_⊎_}
 use lib.ListN.{length, take}
-use Rattle.laws.specs.Each.{each-none, each-more}
-use Rattle.words.specs.Field.{spelled, le, bytesOf}
-use Rattle.words.specs.Part.{orderOf, sameAs}
-use Rattle.words.proofs.Laws.{bytes-tested}
-use Rattle.words.specs.Field.{AllBytes}
-use Rattle.mixing.specs.Mixing.{hashOf, seedOf}
-use Rattle.layout.specs.Layout.{keysIn}
 use Rattle.records.specs.declared.Kind.the-variants.{Put, Tombstone}
 use Rattle.records.specs.declared.Limit.the-variants.{None}
 use Rattle.records.specs.declared.Record.{Record}
-use Rattle.records.specs.Example.{exampleTable, exampleArena}
-use Rattle.records.specs.Model.{Entry, versionBytes, versionsBytes, entryBytes, tableBytes, within, better, greatest, recordsOf, lookup}
-use Rattle.records.specs.Places.{keyAt, recordAt, versionsFrom, entryAt, entriesFrom}
-use Rattle.records.specs.Rules.{keyRises, keyRefusal, sequenceFalls, versionRefusal, versionsRefusal, entryRefusal}
-use Rattle.records.specs.Tables.{TableInData}
-use Rattle.records.specs.Walk.{walkFrom}
-use Rattle.construct.specs.Construct.{bucketsOf, attemptOf}
-use Rattle.construct.specs.Keys.{arenaKey, hashesOf, attemptHashes}
-use Rattle.construct.proofs.Figures.{one-key}
+use Rattle.records.specs.Example.{exampleArena}
+use Rattle.records.specs.Model.{Entry, tableBytes}
 use Rattle.point.specs.declared.Answer.the-variants.{Found, Nothing}
-use Rattle.point.specs.Get.{getOf, answerNumber}
-use Rattle.point.specs.Table.{OneBelow, Belongs, answerTo}
-use Rattle.point.proofs.SlotLaws.{slot-owner, owner-slot}
+use Rattle.point.specs.Get.{getOf}
+use Rattle.point.specs.Table.{OneBelow, Belongs}
 use Rattle.finish.specs.declared.Finished.{Finished}
 use Rattle.finish.specs.declared.Finished.the-variants.{Body, Refused}
-use Rattle.finish.specs.Body.{arenaStart}
-use Rattle.finish.specs.Finish.{walked, keysOf, lengthsRefusal, answered, bodyLength, finishOf, FinishPost, finishedNumber}
-use Rattle.finish.proofs.LengthLaws.{length-fits}
-use Rattle.finish.proofs.Answers.{finish-number, ten-fails, body-or-ten}
-use Rattle.finish.proofs.Accepted.{finish-get}
-use Rattle.promises.specs.Finished.{output-body}
-use Rattle.promises.specs.Example.{exampleBody, ExampleRoom, example-output, example-accepted, example-read}
+use Rattle.finish.specs.Finish.{FinishPost}
+use Rattle.promises.specs.Example.{ExampleRoom}
 
 -- a put of 8 bytes
 abbrev pub putOf : (sequence offset : ℕ) → Record
 putOf sequence offset = record { kind = Put; sequence = sequence; offset = offset; length = 8 }
-
--- ---- one key
 
 -- key A alone
 unfoldable pub oneTable : List Entry
@@ -53,118 +28,37 @@ oneTable = record { key = 65 ∷ []; versions = putOf 9 0 ∷ [] } ∷ []
 unfoldable pub oneArena : List ℕ
 oneArena = tableBytes oneTable
 
-one-bytes : AllBytes oneArena
-unfolding oneArena oneTable tableBytes entryBytes versionsBytes versionBytes bytesOf
-one-bytes = bytes-tested oneArena refl
-
-one-keys : keysOf oneArena ≡ 1
-unfolding oneArena oneTable tableBytes entryBytes versionsBytes versionBytes bytesOf le spelled walked walkFrom entryRefusal keyRefusal keyRises keyAt orderOf versionsRefusal versionRefusal sequenceFalls
-one-keys = refl
-
-one-end : walked oneArena .end ≡ length oneArena
-unfolding oneArena oneTable tableBytes entryBytes versionsBytes versionBytes bytesOf le spelled walked walkFrom entryRefusal keyRefusal keyRises keyAt orderOf versionsRefusal versionRefusal sequenceFalls
-one-end = refl
-
-one-body : bodyLength oneArena (keysOf oneArena) ≡ 78
-unfolding oneArena oneTable tableBytes entryBytes versionsBytes versionBytes bytesOf le spelled walked walkFrom entryRefusal keyRefusal keyRises keyAt orderOf versionsRefusal versionRefusal sequenceFalls arenaStart bucketsOf
-one-body = refl
-
-one-entries : entriesFrom oneArena 0 (keysOf oneArena) ≡ oneTable
-unfolding oneArena oneTable tableBytes entryBytes versionsBytes versionBytes bytesOf le spelled walked walkFrom entryRefusal keyRefusal keyRises keyAt orderOf versionsRefusal versionRefusal sequenceFalls entriesFrom entryAt versionsFrom recordAt
-one-entries = refl
-
--- its hash under the seed of attempt i, alone
-one-hashes : (i : ℕ) → attemptHashes oneArena (keysOf oneArena) i ≡ hashOf (seedOf i) (arenaKey oneArena 0) ∷ []
-unfolding attemptHashes hashesOf
-one-hashes i = ap (λ (n : ℕ). attemptHashes oneArena n i) one-keys
-
-one-number : (out wide narrow : ℕ) → finishedNumber (finishOf oneArena out wide narrow) ≡ 10 → ⊥
-one-number out wide narrow e =
-    Option·some-ne-none _ (sym (one-key (hashOf (seedOf 0) (arenaKey oneArena 0))) ∙ ap attemptOf (sym (one-hashes 0)) ∙ ten-fails oneArena out wide narrow e 0 (omega arith))
-
--- THEOREM: a finish that answers 10 each time is shut out: for one key no call that meets finish's contract answers 10
-pub never-ten : {o w u o' w' u' : List ℕ} → FinishPost oneArena o w u (Refused 10) o' w' u' → ⊥
-never-ten {o} {w} {u} P = one-number (length o) (length w) (length u) (ap finishedNumber (sym (P .answer)))
-
 -- room for one key: a body of 78 bytes, 2 words of 64 bits, 16 of 32
-pub record OneRoom (o w u : List ℕ) : Type 0 where
-  pub out : 78 ≤ length o
-  pub wide : 2 ≤ length w
-  pub narrow : 16 ≤ length u
+pub record OneRoom (out wide narrow : List ℕ) : Type 0 where
+  pub out-room : 78 ≤ length out
+  pub wide-room : 2 ≤ length wide
+  pub narrow-room : 16 ≤ length narrow
 
-module _ {o w u o' w' u' : List ℕ} {r : Finished} (R : OneRoom o w u) (P : FinishPost oneArena o w u r o' w' u') where
-  one-fits : lengthsRefusal oneArena (length o) (length w) (length u) ≡ 0
-  one-fits =
-      sym
-      (length-fits (length oneArena) (walked oneArena .end) (keysOf oneArena) (length o) (length w) (length u) one-end
-      (λ z. omega (arith, one-keys)) (omega (arith, one-keys)) (omega (arith, one-keys, R .wide)) (omega (arith, one-keys, R .narrow)) (omega (arith, one-body, R .out)))
-
-  -- THEOREM: with room it answers the body
+-- one key, finished with room
+pub record OneKey (r : Finished) (out' : List ℕ) : Type 0 where
+  -- the answer is the body, and get finds the key in what was written
   pub one-finished : r ≡ Body 78
-  unfolding finishOf
-  one-finished = go (body-or-ten oneArena (length o) (length w) (length u) (omega (arith, one-keys)) one-fits)
-    where
-      go : (finishedNumber (finishOf oneArena (length o) (length w) (length u)) ≡ 0) ⊎ (finishedNumber (finishOf oneArena (length o) (length w) (length u)) ≡ 10) → r ≡ Body 78
-      go (inl z) =
-          P .answer ∙ ap (λ (x : ℕ). answered x (bodyLength oneArena (keysOf oneArena))) (sym (finish-number oneArena (length o) (length w) (length u)) ∙ z) ∙ ap Body one-body
-      go (inr t) = absurd (one-number (length o) (length w) (length u) t)
+  pub one-found : getOf (take 78 out') 8 (65 ∷ []) None ≡ Found (putOf 9 0)
+  -- a get that always says nothing is shut out
+  pub never-nothing : getOf (take 78 out') 8 (65 ∷ []) None ≡ Nothing → ⊥
 
-  one-post : FinishPost oneArena o w u (Body 78) o' w' u'
-  one-post = subst (λ (x : Finished). FinishPost oneArena o w u x o' w' u') one-finished P
-
-  -- THEOREM: get finds the key in what was written
-  pub one-found : getOf (take 78 o') 8 (65 ∷ []) None ≡ Found (putOf 9 0)
-  unfolding oneTable lookup recordsOf greatest better within sameAs
-  one-found =
-      let inside : 0 + 8 ≤ 8 = omega arith in
-      let covered : TableInData 8 oneTable = each-more (each-more inside each-none) each-none in
-      ap (λ (b : List ℕ). getOf b 8 (65 ∷ []) None) (output-body one-bytes one-post)
-      ∙ finish-get oneArena (length o) (length w) (length u) 78 one-bytes (sym (one-post .answer)) 8 (subst (TableInData 8) (sym one-entries) covered) (65 ∷ []) None
-      ∙ ap (λ (t : List Entry). answerTo (lookup t (65 ∷ []) None)) one-entries
-
-  -- THEOREM: a get that always says nothing is shut out
-  pub never-nothing : getOf (take 78 o') 8 (65 ∷ []) None ≡ Nothing → ⊥
-  never-nothing e = omega (arith, ap answerNumber (sym one-found ∙ e))
-
--- ---- three keys: document 01's example
-
--- the body has three keys
-body-keys : keysIn exampleBody ≡ 3
-unfolding exampleBody le spelled
-body-keys = refl
-
-module _ {o w u o' w' u' : List ℕ} {r : Finished} (R : ExampleRoom o w u) (P : FinishPost exampleArena o w u r o' w' u') where
-  -- THEOREM: with room it answers the body
+-- three keys, those of document 01's example, finished with room
+pub record ThreeKeys (r : Finished) (out' : List ℕ) : Type 0 where
+  -- the answer is the body, and get finds the greatest record of each of the three keys in what was written
   pub all-finished : r ≡ Body 204
-  all-finished = example-output R P .0
+  pub all-found : (getOf (take 204 out') 116 (65 ∷ []) None ≡ Found (putOf 9 100))
+      × (getOf (take 204 out') 116 (66 ∷ []) None ≡ Found (record { kind = Tombstone; sequence = 7; offset = 108; length = 0 }))
+      × (getOf (take 204 out') 116 (67 ∷ []) None ≡ Found (putOf 12 108))
+  -- each of its three slots belongs to exactly one of the three keys, and each of the three keys has exactly one slot
+  pub slots-owned : (s : ℕ) → s < 3 → OneBelow 3 (Belongs (take 204 out') s)
+  pub keys-placed : (i : ℕ) → i < 3 → OneBelow 3 (λ s. Belongs (take 204 out') s i)
+  -- an index that places only its first key is shut out: another key would have no slot, and get would miss it
+  pub never-unplaced : (i : ℕ) → 0 < i → i < 3 → ((s : ℕ) → s < 3 → Belongs (take 204 out') s i → ⊥) → ⊥
+  pub never-first-only : (getOf (take 204 out') 116 (66 ∷ []) None ≡ Nothing) ⊎ (getOf (take 204 out') 116 (67 ∷ []) None ≡ Nothing) → ⊥
 
-  found : (key : List ℕ) → getOf (take 204 o') 116 key None ≡ answerTo (lookup exampleTable key None)
-  found key = ap (λ (b : List ℕ). getOf b 116 key None) (example-output R P .1) ∙ example-read key None
-
-  -- THEOREM: get finds the greatest record of each of the three keys in what was written
-  pub all-found : (getOf (take 204 o') 116 (65 ∷ []) None ≡ Found (putOf 9 100))
-      × (getOf (take 204 o') 116 (66 ∷ []) None ≡ Found (record { kind = Tombstone; sequence = 7; offset = 108; length = 0 }))
-      × (getOf (take 204 o') 116 (67 ∷ []) None ≡ Found (putOf 12 108))
-  unfolding exampleTable lookup recordsOf greatest better within sameAs
-  all-found = (found (65 ∷ []), found (66 ∷ []), found (67 ∷ []))
-
-  -- THEOREM: each of its three slots belongs to exactly one of the three keys
-  pub slots-owned : (s : ℕ) → s < 3 → OneBelow 3 (Belongs (take 204 o') s)
-  slots-owned s l =
-      subst (λ (b : List ℕ). OneBelow 3 (Belongs b s)) (sym (example-output R P .1))
-      (subst (λ (n : ℕ). OneBelow n (Belongs exampleBody s)) body-keys (slot-owner exampleBody 116 example-accepted s (omega (arith, body-keys))))
-
-  -- THEOREM: and each of the three keys has exactly one slot
-  pub keys-placed : (i : ℕ) → i < 3 → OneBelow 3 (λ s. Belongs (take 204 o') s i)
-  keys-placed i l =
-      subst (λ (b : List ℕ). OneBelow 3 (λ s. Belongs b s i)) (sym (example-output R P .1))
-      (subst (λ (n : ℕ). OneBelow n (λ s. Belongs exampleBody s i)) body-keys (owner-slot exampleBody 116 example-accepted i (omega (arith, body-keys))))
-
-  -- THEOREM: an index that places only its first key is shut out: another key would have no slot
-  pub never-unplaced : (i : ℕ) → 0 < i → i < 3 → ((s : ℕ) → s < 3 → Belongs (take 204 o') s i → ⊥) → ⊥
-  never-unplaced i other low f = let p = keys-placed i low in f (p .number) (p .low) (p .has)
-
-  -- THEOREM: and get would miss it
-  pub never-first-only : (getOf (take 204 o') 116 (66 ∷ []) None ≡ Nothing) ⊎ (getOf (take 204 o') 116 (67 ∷ []) None ≡ Nothing) → ⊥
-  never-first-only (inl e) = omega (arith, ap answerNumber (sym (all-found .1) ∙ e))
-  never-first-only (inr e) = omega (arith, ap answerNumber (sym (all-found .2) ∙ e))
+pub record IdleIndex : Type 0 where
+  -- a finish that answers 10 each time is shut out: for one key no call that meets finish's contract answers 10
+  pub never-ten : {out wide narrow out' wide' narrow' : List ℕ} → FinishPost oneArena out wide narrow (Refused 10) out' wide' narrow' → ⊥
+  pub one-key : {out wide narrow out' wide' narrow' : List ℕ} {r : Finished} → OneRoom out wide narrow → FinishPost oneArena out wide narrow r out' wide' narrow' → OneKey r out'
+  pub three-keys : {out wide narrow out' wide' narrow' : List ℕ} {r : Finished} → ExampleRoom out wide narrow → FinishPost exampleArena out wide narrow r out' wide' narrow'
+      → ThreeKeys r out'

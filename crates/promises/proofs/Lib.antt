@@ -1,0 +1,16 @@
+pub mod Refused
+pub mod Boundary
+pub mod Answers
+pub mod Accepted
+pub mod Taken
+pub mod Finished
+pub mod Filter
+pub mod Listed
+pub mod Unique
+pub mod Example
+pub mod Unplaced
+pub mod Figures
+pub mod IdleAdd
+pub mod IdleIndex
+pub mod IdleFilter
+pub mod Promised
