@@ -11,7 +11,7 @@ use Rattle.fuse.specs.Asking.{containsOf}
 use Rattle.fuse.specs.Layout.{fitting}
 use Rattle.filter.specs.declared.SstFilter.{SstFilter}
 use Rattle.filter.specs.declared.SstFilter.the-variants as read
-use Rattle.filter.specs.declared.Answer.the-variants.{Absent, Maybe, Refused}
+use Rattle.filter.specs.declared.Asked.the-variants.{Absent, Maybe, Refused}
 use Rattle.filter.specs.Asking.{askCellsOf, askOf}
 use Rattle.filter.proofs.ReadLaws.{read-short}
 
@@ -20,9 +20,9 @@ module _ (filter : SstFilter) (cells : List ℕ) (hash : ℕ) where
   unfolding askCellsOf
   ask-positive e = rw e
 
-  pub ask-refused : filter ≡ read.Refused → Refused ≡ askCellsOf filter cells hash
+  pub ask-unread : filter ≡ read.Refused → Refused ≡ askCellsOf filter cells hash
   unfolding askCellsOf
-  ask-refused e = rw e
+  ask-unread e = rw e
 
   module _ (s : Sizes) (e : filter ≡ read.Fuse s) where
     pub ask-fuse : (t : Bool) → true ≡ fitting s (length cells) → t ≡ containsOf cells s hash
@@ -38,7 +38,7 @@ module _ (filter : SstFilter) (cells : List ℕ) (hash : ℕ) where
 pub ask-short : (bytes : List ℕ) (hash : ℕ) → length bytes < 48 → Refused ≡ askOf bytes hash
 unfolding askOf
 ask-short bytes hash l =
-    ask-refused read.Refused (drop 48 bytes) hash refl ∙ ap (λ (f : SstFilter). askCellsOf f (drop 48 bytes) hash) (read-short bytes l)
+    ask-unread read.Refused (drop 48 bytes) hash refl ∙ ap (λ (f : SstFilter). askCellsOf f (drop 48 bytes) hash) (read-short bytes l)
 
 -- the bytes past the header, as the code takes them
 pub cells-part : (bytes : List ℕ) → take (length bytes - 48) (drop 48 bytes) ≡ drop 48 bytes

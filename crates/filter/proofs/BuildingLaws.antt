@@ -30,12 +30,12 @@ use Rattle.sizing.proofs.SizedLaws.{plan-zero, plan-least, plan-sizes, plan-usa
 use Rattle.sort.specs.Sort.{sorted}
 use Rattle.sort.specs.Twins.{repeatsNext}
 use Rattle.sort.proofs.SortLaws.{length-sorted}
-use Rattle.peel.specs.Peel.{succeeds, cellsLaid}
-use Rattle.peel.specs.Table.{AttemptPost}
+use Rattle.peel.specs.Peel.{succeeds, cellsLaid, AttemptPost}
 use Rattle.peel.proofs.AttemptLaws.{check-never-fails, cells-length}
 use Rattle.filter.specs.declared.Built.{Built}
 use Rattle.filter.specs.declared.Built.the-variants.{Positive, Fuse, Refused}
-use Rattle.filter.specs.Building.{cellsFor, buildCauses, buildRefusal, Roomy, peelsBy, seedBy, firstAttempt, attemptNumber, seeded, byAttempt, byPlan, builtOf, unlessRefused, buildOf, cellsBy, outBy, hashesBy, spaceBy, BuildPost, Spaced, SearchPost, CellsPost, Missing, madeBy, MakePost, LayPost}
+use Rattle.filter.specs.Building.{cellsFor, buildCauses, buildRefusal, peelsBy, seedBy, firstAttempt, seeded, byAttempt, byPlan, builtOf, unlessRefused, buildOf, outBy, hashesBy, spaceBy, BuildPost}
+use Rattle.filter.specs.Inner.Building.{Roomy, attemptNumber, cellsBy, Spaced, SearchPost, CellsPost, Missing, madeBy, MakePost, LayPost}
 
 -- ---- the plan
 
@@ -383,10 +383,10 @@ module _ (hashes wide narrow out : List ℕ) where
   refused-by zero n b = absurd (n refl)
   refused-by (suc r) n b = refl
 
-  pub build-refused : (number : ℕ) → number ≡ buildRefusal (length hashes) (length wide) (length narrow) (length out) → (number ≡ 0 → ⊥)
+  pub build-stopped : (number : ℕ) → number ≡ buildRefusal (length hashes) (length wide) (length narrow) (length out) → (number ≡ 0 → ⊥)
       → BuildPost hashes wide narrow out (Refused number) hashes wide narrow out
   unfolding buildOf
-  build-refused number e n =
+  build-stopped number e n =
       let a : Refused number ≡ unlessRefused (buildRefusal (length hashes) (length wide) (length narrow) (length out)) (builtOf hashes) =
       refused-by number n (builtOf hashes) ∙ ap (λ (k : ℕ). unlessRefused k (builtOf hashes)) e in
       record {

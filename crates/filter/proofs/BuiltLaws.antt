@@ -22,12 +22,12 @@ use Rattle.sizing.specs.Table.{mostHashes}
 use Rattle.sizing.specs.Sizing.{sizesOf}
 use Rattle.sizing.proofs.SizedLaws.{sizes-enough, sizes-accepted}
 use Rattle.sort.specs.Sort.{sorted}
-use Rattle.sort.proofs.TwinLaws.{twins-sorted, repeats-doubles}
+use Rattle.sort.proofs.TwinLaws.{sorted-doubles}
 use Rattle.sort.proofs.SortLaws.{count-sorted}
 use Rattle.peel.specs.Peel.{succeeds, cellsLaid}
 use Rattle.peel.proofs.AttemptLaws.{check-never-fails, cells-length}
 use Rattle.filter.specs.declared.SstFilter.the-variants as read
-use Rattle.filter.specs.declared.Answer.the-variants.{Maybe}
+use Rattle.filter.specs.declared.Asked.the-variants.{Maybe}
 use Rattle.filter.specs.declared.Built.{Built}
 use Rattle.filter.specs.declared.Built.the-variants.{Positive, Fuse, Refused}
 use Rattle.filter.specs.Reading.{readOf, positive, fuse}
@@ -44,7 +44,7 @@ built-way hashes = way (length hashes) (sorted hashes)
 
 why : (hashes : List ℕ) (b : Built) → Way (length hashes) (sorted hashes) b → b ≡ Positive → WhyPositive hashes
 why hashes b (empty z) e = no-hashes z
-why hashes b (double t) e = let d = repeats-doubles hashes .yes (sym (twins-sorted hashes) ∙ t) in equal-hashes (d .0) (d .1)
+why hashes b (double t) e = let d = sorted-doubles hashes .yes t in equal-hashes (d .0) (d .1)
 why hashes b (tried l t) e = go (firstAttempt (sizesOf (length hashes)) (sorted hashes)) refl e
   where
     go : (o : Option (ℕ × ℕ)) → firstAttempt (sizesOf (length hashes)) (sorted hashes) ≡ o → byAttempt (sizesOf (length hashes)) o ≡ Positive → WhyPositive hashes
@@ -58,7 +58,7 @@ back : (hashes : List ℕ) (b : Built) → Way (length hashes) (sorted hashes) b
 back hashes b (empty z) w = refl
 back hashes b (double t) w = refl
 back hashes b (tried l t) (no-hashes z) = absurd (omega arith)
-back hashes b (tried l t) (equal-hashes v k) = absurd (omega (arith, repeats-doubles hashes .no (sym (twins-sorted hashes) ∙ t) v))
+back hashes b (tried l t) (equal-hashes v k) = absurd (omega (arith, sorted-doubles hashes .no t v))
 back hashes b (tried l t) (no-attempt f) =
     ap (byAttempt (sizesOf (length hashes))) (attempt-none (sizesOf (length hashes)) (sorted hashes) f)
 

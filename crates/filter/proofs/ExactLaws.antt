@@ -8,10 +8,9 @@ use native.Mathlib.Omega.{arith}
 use borrow.Author.Tests.{eq-eqb, eqb-true, le-ltb}
 use lib.ListN.{length, drop, length-append, length-drop}
 use lib.Seq.{take-at, drop-at}
-use Rattle.words.specs.Field.{bytesOf, splice}
+use Rattle.words.specs.Field.{bytesOf, splice, AllBytes}
 use Rattle.words.specs.Part.{sameAs}
 use Rattle.words.proofs.Laws.{le-lt}
-use Rattle.words.specs.Field.{AllBytes}
 use Rattle.words.proofs.Ordered.{same-self}
 use Rattle.fuse.specs.declared.Sizes.{Sizes}
 use Rattle.fuse.specs.Asking.{containsOf}
@@ -20,14 +19,14 @@ use Rattle.fuse.proofs.FitLaws.{fitting-accepted, accepted-fitting, cells-some}
 use Rattle.fuse.proofs.HeaderLaws.{header-length, sizes-back}
 use Rattle.filter.specs.declared.SstFilter.{SstFilter}
 use Rattle.filter.specs.declared.SstFilter.the-variants.{Positive, Fuse, Refused}
-use Rattle.filter.specs.declared.Answer.the-variants as answer
+use Rattle.filter.specs.declared.Asked.the-variants as answer
 use Rattle.filter.specs.declared.Written.{Written}
 use Rattle.filter.specs.declared.Written.the-variants.{Length}
 use Rattle.filter.specs.Reading.{readOf, readRefusal, readValues, frontOf, acceptable, Layout, positive, fuse}
 use Rattle.filter.specs.Asking.{askCellsOf, askOf, askNumber}
 use Rattle.filter.specs.Writing.{bytesFor, writeOf, outputBy, WritePost}
 use Rattle.filter.proofs.ReadLaws.{read-positive, read-other, positive-bytes, fuse-sizes, fuse-accepted, fuse-bytes}
-use Rattle.filter.proofs.AskLaws.{ask-positive, ask-refused, ask-fuse}
+use Rattle.filter.proofs.AskLaws.{ask-positive, ask-unread, ask-fuse}
 use Rattle.filter.proofs.WriteLaws.{front-length}
 
 -- ---- what has a layout is read as it was laid out
@@ -163,7 +162,7 @@ written-again bytes filter e n out after r l w =
 
 pub ask-refuses : (bytes : List ℕ) (hash : ℕ) → readRefusal (readOf bytes) ≡ 15 → askNumber (askOf bytes hash) ≡ 15
 unfolding askOf
-ask-refuses bytes hash e = ap askNumber (sym (ask-refused (readOf bytes) (drop 48 bytes) hash (unread (readOf bytes) e)))
+ask-refuses bytes hash e = ap askNumber (sym (ask-unread (readOf bytes) (drop 48 bytes) hash (unread (readOf bytes) e)))
 
 pub ask-answers : (bytes : List ℕ) (hash : ℕ) → askNumber (askOf bytes hash) ≡ 15 → readRefusal (readOf bytes) ≡ 15
 unfolding askOf

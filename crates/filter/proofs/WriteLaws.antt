@@ -55,20 +55,20 @@ module _ (filter : SstFilter) (cells out : List ℕ) where
   kept : (r : Written) → r ≡ writeOf filter cells (length out) → out ≡ outputBy r filter cells out → WritePost filter cells out r out
   kept r e o = record { answer = e; output = o ∙ ap (λ (w : Written). outputBy w filter cells out) e }
 
-  pub write-unaccepted : acceptable filter (length cells) ≡ false → WritePost filter cells out Unaccepted out
+  pub unaccepted-post : acceptable filter (length cells) ≡ false → WritePost filter cells out Unaccepted out
   unfolding writeOf
-  write-unaccepted e = kept Unaccepted (simp e) refl
+  unaccepted-post e = kept Unaccepted (simp e) refl
 
   module _ (e : acceptable filter (length cells) ≡ true) where
-    pub write-short : length out < 48 + length cells → WritePost filter cells out Short out
+    pub short-post : length out < 48 + length cells → WritePost filter cells out Short out
     unfolding writeOf
-    write-short l = kept Short (simp (e, lt-ltb _ _ l)) refl
+    short-post l = kept Short (simp (e, lt-ltb _ _ l)) refl
 
     -- the front, then the cells behind it
-    pub write-whole : 48 + length cells ≤ length out → (after : List ℕ) → after ≡ splice (splice out 0 (frontOf filter)) 48 cells
+    pub whole-post : 48 + length cells ≤ length out → (after : List ℕ) → after ≡ splice (splice out 0 (frontOf filter)) 48 cells
         → WritePost filter cells out (Length (48 + length cells)) after
     unfolding writeOf bytesFor
-    write-whole l after p =
+    whole-post l after p =
         let w : Length (48 + length cells) ≡ writeOf filter cells (length out) = simp (e, le-ltb _ _ l) in
         record {
           answer = w;

@@ -3,7 +3,7 @@ use mathlib.Core.Bool.{Bool, true, false, cond}
 use mathlib.Core.List.{List, [], _∷_, _++_}
 use mathlib.Core.Option.{Option, none, some}
 use mathlib.Core.Path.{_≡_}
-use Prim.Native.Nat.{ℕ, zero, suc, _+_, _*_, _≤_, _<_, _^_}
+use Prim.Native.Nat.{ℕ, zero, suc, _+_, _*_, _≤_, _<_}
 use lib.Dec.{ltb}
 use lib.ListN.{length, replicate}
 use Rattle.laws.specs.Refusals.{Cause, cause, firstOf}
@@ -12,8 +12,7 @@ use Rattle.laws.specs.Steps.{least}
 use Rattle.words.specs.Field.{splice}
 use Rattle.mixing.specs.Mixing.{mixOf}
 use Rattle.fuse.specs.declared.Sizes.{Sizes}
-use Rattle.fuse.specs.Positions.{cellsIn, FitsCells}
-use Rattle.fuse.specs.Asking.{containsOf}
+use Rattle.fuse.specs.Positions.{cellsIn}
 use Rattle.fuse.specs.Layout.{positiveBytes, fuseHeader}
 use Rattle.sizing.specs.declared.Plan.{Plan}
 use Rattle.sizing.specs.declared.Plan.the-variants as plan
@@ -47,13 +46,6 @@ buildCauses n wide narrow out =
 unfoldable pub buildRefusal : (n wide narrow out : ℕ) → ℕ
 buildRefusal n wide narrow out = firstOf (buildCauses n wide narrow out)
 
--- the lengths past the checks
-pub record Roomy (n wide narrow out : ℕ) : Type 0 where
-  pub few : n ≤ mostHashes
-  pub wide-room : cellsFor n + n ≤ wide
-  pub narrow-room : 2 * cellsFor n + n ≤ narrow
-  pub out-room : 48 + cellsFor n ≤ out
-
 -- ---- what is built of the sorted hashes
 
 -- whether attempt i, with seed mix(i), peels every hash
@@ -67,11 +59,6 @@ seedBy s hashes i = cond (peelsBy s hashes (i + 1)) (some (mixOf (i + 1))) none
 -- the first of the attempts 1 to 100 that peels every hash: one less than its number, and its seed
 unfoldable pub firstAttempt : Sizes → List ℕ → Option (ℕ × ℕ)
 firstAttempt s hashes = least (seedBy s hashes) 100 0
-
--- its number, 0 for none
-abbrev pub attemptNumber : Option (ℕ × ℕ) → ℕ
-attemptNumber none = 0
-attemptNumber (some (i, seed)) = i + 1
 
 -- the sizes with a seed
 abbrev pub seeded : Sizes → (seed : ℕ) → Sizes
@@ -106,12 +93,6 @@ builtRefusal (Fuse s) = 0
 builtRefusal (Refused r) = r
 
 -- ---- what is lent, after each answer
-
--- the cells, filled if a filter was built of the hashes
-abbrev pub cellsBy : Built → (hashes cells : List ℕ) → List ℕ
-cellsBy Positive hashes cells = cells
-cellsBy (Fuse s) hashes cells = cellsLaid (s .segment) (s .count) (s .seed) hashes
-cellsBy (Refused r) hashes cells = cells
 
 -- the bytes written: the Positive layout, or the header and the cells
 abbrev pub writtenBy : Built → (hashes : List ℕ) → List ℕ
@@ -181,43 +162,3 @@ abbrev pub asRead : Built → SstFilter
 asRead Positive = read.Positive
 asRead (Fuse s) = read.Fuse s
 asRead (Refused r) = read.Refused
-
--- ---- between the steps
-
--- lengths that the attempts work with
-pub record Spaced (s : Sizes) (n wide narrow cells : ℕ) : Type 0 where
-  pub fits : FitsCells (s .segment) (s .count) cells
-  pub few : n + 1 < 2 ^ 32
-  pub wide-room : cells + n ≤ wide
-  pub narrow-room : cells + cells + n ≤ narrow
-
--- how the attempts ended, and the cells after them
-pub record SearchPost (s : Sizes) (hashes before after : List ℕ) (attempt : ℕ) : Type 0 where
-  pub first : attempt ≡ attemptNumber (firstAttempt s hashes)
-  pub cells : after ≡ cellsBy (byAttempt s (firstAttempt s hashes)) hashes before
-
--- what was built over the cells
-pub record CellsPost (s : Sizes) (hashes before after : List ℕ) (r : Built) : Type 0 where
-  pub answer : r ≡ byAttempt s (firstAttempt s hashes)
-  pub cells : after ≡ cellsBy r hashes before
-
--- the output with the cells in their place, before the header stands in front
-abbrev pub madeBy : Built → (hashes out : List ℕ) → List ℕ
-madeBy Positive hashes out = out
-madeBy (Fuse s) hashes out = splice out 48 (cellsLaid (s .segment) (s .count) (s .seed) hashes)
-madeBy (Refused r) hashes out = out
-
-pub record MakePost (hashes before after : List ℕ) (r : Built) : Type 0 where
-  pub answer : r ≡ byPlan (planOf (length hashes)) hashes
-  pub output : after ≡ madeBy r hashes before
-
--- the filter written
-pub record LayPost (hashes before after : List ℕ) (r : Built) : Type 0 where
-  pub answer : r ≡ byPlan (planOf (length hashes)) hashes
-  pub output : after ≡ outBy r hashes before
-
--- one of the hashes is not in the cells
-pub record Missing (cells : List ℕ) (s : Sizes) (hashes : List ℕ) : Type 0 where
-  pub hash : ℕ
-  pub given : 1 ≤ occurs hash hashes
-  pub absent : containsOf cells s hash ≡ false

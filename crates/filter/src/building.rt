@@ -3,10 +3,12 @@ ghost use mathlib.Core.Bool.{false};
 ghost use mathlib.Core.Path.{_≡_};
 ghost use lib.ListN.{length};
 ghost use Rattle.fuse.specs.Positions.{FitsCells};
-ghost use Rattle.filter.specs.Building.{cellsFor, buildRefusal, Roomy, Spaced, SearchPost, CellsPost, Missing, MakePost, LayPost};
+ghost use Rattle.filter.specs.Building.{cellsFor, buildRefusal};
+ghost use Rattle.filter.specs.Inner.Building.{Roomy, Spaced, SearchPost, CellsPost, Missing, MakePost, LayPost};
 use super::Built;
 use fuse::Sizes;
 use fuse::header;
+use numbers::Refusal;
 use peel::Graph;
 use sizing::Plan;
 
@@ -26,17 +28,17 @@ pub fn refusal(n: usize, wide: usize, narrow: usize, out: usize) -> u8
     ensures { λ r. ⌜ r ≡ buildRefusal n wide narrow out ⌝ }
 {
     if Plan::MAX_HASHES < n {
-        return Built::MANY;
+        return Refusal::HASHES;
     }
     let c = cells_for(n);
     if wide < c + n {
-        return Built::SPACE;
+        return Refusal::WORKSPACE;
     }
     if narrow < 2 * c + n {
-        return Built::SPACE;
+        return Refusal::WORKSPACE;
     }
     if out < Sizes::HEADER + c {
-        return Built::SHORT;
+        return Refusal::BUFFER;
     }
     0
 }

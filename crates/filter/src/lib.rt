@@ -23,7 +23,7 @@ pub enum SstFilter {
 }
 
 // Whether a filter holds a hash.
-pub enum Answer {
+pub enum Asked {
     Absent,
     Maybe,
     Refused,
@@ -46,12 +46,6 @@ pub enum Built {
 impl Built {
     // The attempts, each with a seed of its own.
     pub const ATTEMPTS: u64 = 100;
-    // The refusals: too many hashes, workspace too short, output too short.
-    pub const MANY: u8 = 12;
-
-    pub const SPACE: u8 = 9;
-
-    pub const SHORT: u8 = 6;
 }
 
 // Reads a filter's bytes.
@@ -73,32 +67,32 @@ pub fn read(bytes: &[u8]) -> SstFilter
 }
 
 // Asks a filter that was read, beside its cells, for a hash.
-pub fn ask_cells(filter: SstFilter, cells: &[u8], hash: u64) -> Answer
+pub fn ask_cells(filter: SstFilter, cells: &[u8], hash: u64) -> Asked
     ensures { λ r. ⌜ r ≡ askCellsOf filter (now (cells .entry)) hash ⌝ }
 {
     match filter {
-        SstFilter::Positive => Answer::Maybe,
+        SstFilter::Positive => Asked::Maybe,
         SstFilter::Fuse(s) => {
             if header::fits(s, cells.len()) {
                 if fuse::contains(cells, s, hash) {
-                    Answer::Maybe
+                    Asked::Maybe
                 } else {
-                    Answer::Absent
+                    Asked::Absent
                 }
             } else {
-                Answer::Refused
+                Asked::Refused
             }
         }
-        SstFilter::Refused => Answer::Refused,
+        SstFilter::Refused => Asked::Refused,
     }
 }
 
 // Asks a filter's bytes for a hash.
-pub fn ask(bytes: &[u8], hash: u64) -> Answer
+pub fn ask(bytes: &[u8], hash: u64) -> Asked
     ensures { λ r. ⌜ r ≡ askOf (now (bytes .entry)) hash ⌝ }
 {
     if bytes.len() < Sizes::HEADER {
-        return Answer::Refused;
+        return Asked::Refused;
     }
     ask_cells(read(bytes), &bytes[Sizes::HEADER..], hash)
 }
@@ -143,7 +137,7 @@ pub fn write(filter: SstFilter, cells: &[u8], out: &mut [u8]) -> Written
     }
 }
 
-// Builds a filter of the hashes, and writes it; the hashes are left sorted, and the workspace zero.
+// Builds a filter of the hashes, and writes it; unless the call is refused, the hashes are left sorted and the workspace zero.
 pub fn build(hashes: &mut [u64], wide: &mut [u64], narrow: &mut [u32], out: &mut [u8]) -> Built
     ensures { λ r. ⌜ BuildPost (now (hashes .entry)) (now (wide .entry)) (now (narrow .entry)) (now (out .entry)) r (now (hashes .exit)) (now (wide .exit)) (now (narrow .exit)) (now (out .exit)) ⌝ }
 {

@@ -26,12 +26,12 @@ put-behind xs p q at e l =
     ap (λ (k : ℕ). splice (splice xs 0 p) k q) f ∙ splice-splice xs 0 p (omega arith) q
 
 -- the header, field by field
-pub header-written : (s : Sizes) (n : ℕ) (xs : List ℕ) → n ≡ cellsIn (s .segment) (s .count) → 48 ≤ length xs →
+pub fuse-header-written : (s : Sizes) (n : ℕ) (xs : List ℕ) → n ≡ cellsIn (s .segment) (s .count) → 48 ≤ length xs →
     splice (splice (splice (splice (splice (splice (splice (splice xs 0 (bytesOf 8 0x324c_464e_4142_494b)) 8 (bytesOf 8 0x0000_0030_0801_0201))
     16 (bytesOf 8 (s .keys))) 24 (bytesOf 8 (s .seed))) 32 (bytesOf 4 (s .segment))) 36 (bytesOf 4 (s .count))) 40 (bytesOf 4 n)) 44 (bytesOf 4 n)
     ≡ splice xs 0 (fuseHeader s)
 unfolding bytesOf filterMagic fuseHeader
-header-written s n xs e l =
+fuse-header-written s n xs e l =
     let put : ℕ → List ℕ → List ℕ → List ℕ = λ at q t. splice t at q in
     let p₁ : List ℕ = bytesOf 8 0x324c_464e_4142_494b in
     let p₂ : List ℕ = p₁ ++ bytesOf 8 0x0000_0030_0801_0201 in

@@ -75,8 +75,8 @@ unfolding firstCell
 first-le segment count h b = div-le-of-le-mul (2 ^ 64) {m = h * (count * segment)} {n = count * segment} (mul-le-mul-right (count * segment) (le-of-lt b))
 
 -- the sums before the xor fit
-pub room : (segment count h i : ℕ) → Usable segment count → h < 2 ^ 64 → i < 4 → firstCell segment count h + i * segment < 2 ^ 32
-room segment count h i u b l =
+pub sums-fit : (segment count h i : ℕ) → Usable segment count → h < 2 ^ 64 → i < 4 → firstCell segment count h + i * segment < 2 ^ 32
+sums-fit segment count h i u b l =
     let m : i * segment ≤ 3 * segment = mul-le-mul-right segment (omega arith) in
     omega (arith, first-le segment count h b, u .small)
 

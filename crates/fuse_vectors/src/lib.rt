@@ -1,7 +1,7 @@
 // Replays the vectors of the filter's reading side: ops 04 positions, 05 sizing, 32 filter, 33 read and ask.
 ghost use mathlib.Core.Path.{_≡_};
 ghost use lib.ListN.{length};
-use filter::Answer;
+use filter::Asked;
 use filter::SstFilter;
 use fuse::Sizes;
 use fuse::header;
@@ -91,9 +91,9 @@ fn read_number(bytes: &[u8]) -> u8 {
 // The number of the answer for a hash.
 fn ask_number(bytes: &[u8], hash: u64) -> u8 {
     match filter::ask(bytes, hash) {
-        Answer::Absent => 0,
-        Answer::Maybe => 1,
-        Answer::Refused => 15,
+        Asked::Absent => 0,
+        Asked::Maybe => 1,
+        Asked::Refused => 15,
     }
 }
 

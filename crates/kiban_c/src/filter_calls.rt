@@ -1,6 +1,6 @@
 // The filter's calls: built, its bytes read, and asked for hashes.
 use super::lent::put_words;
-use filter::Answer;
+use filter::Asked;
 use filter::Built;
 use filter::SstFilter;
 use fuse::Sizes;
@@ -64,13 +64,13 @@ pub extern "C" fn kiban_filter_read(bytes: &[u8], answer: &mut [u64]) -> u64
 }
 
 // The number of an answer.
-fn number(answer: Answer) -> u8
+fn number(answer: Asked) -> u8
     ensures { λ r. ⌜ r ≡ askNumber answer ⌝ }
 {
     match answer {
-        Answer::Absent => 0,
-        Answer::Maybe => 1,
-        Answer::Refused => 15,
+        Asked::Absent => 0,
+        Asked::Maybe => 1,
+        Asked::Refused => 15,
     }
 }
 

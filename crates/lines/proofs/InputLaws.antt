@@ -12,7 +12,7 @@ use borrow.Author.Tests.{ltb-false, lt-ltb, le-ltb}
 use Rattle.laws.proofs.RefusalLaws.{orElse-zero}
 use Rattle.words.proofs.Laws.{bytes-drop, le-lt}
 use Rattle.words.specs.Field.{AllBytes}
-use Rattle.text.specs.Written.{Ends}
+use Rattle.text.specs.Inner.Written.{Ends}
 use Rattle.text.proofs.TextLaws.{decimal-short}
 use Rattle.layout.specs.Layout.{keysIn, arenaIn}
 use Rattle.layout.proofs.HeaderLaws.{headed}

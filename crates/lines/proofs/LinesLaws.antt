@@ -9,7 +9,7 @@ use lib.ListN.{length, length-append}
 use lib.Seq.{sets}
 use Rattle.words.proofs.Laws.{le-lt}
 use Rattle.words.specs.Field.{AllBytes}
-use Rattle.text.specs.Written.{Ends, WrittenAt}
+use Rattle.text.specs.Inner.Written.{Ends, WrittenAt}
 use Rattle.text.proofs.WrittenLaws.{sets-append}
 use Rattle.layout.specs.Layout.{keysIn, arenaIn}
 use Rattle.records.specs.declared.Record.{Record}

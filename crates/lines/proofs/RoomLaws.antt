@@ -9,7 +9,7 @@ use lib.ListN.{length, length-append}
 use Rattle.laws.specs.Each.{Each}
 use Rattle.laws.specs.Each.Each.{each-more}
 use Rattle.text.specs.Text.{decimal, keyText, field, named}
-use Rattle.text.proofs.TextLaws.{decimal-length, decimal-short, key-length}
+use Rattle.text.proofs.TextLaws.{decimal-length, decimal-short, key-text-length}
 use Rattle.records.specs.declared.DataLength.{DataLength}
 use Rattle.records.specs.declared.Kind.{Kind}
 use Rattle.records.specs.declared.Kind.the-variants.{Put, Tombstone}
@@ -63,7 +63,7 @@ record-length test r u =
 
 line-length : (test : DataLength) (key : List ℕ) (r : Record) → RecordRules test r → length (lineOf key r) ≤ 58 + 2 * length key
 unfolding lineOf
-line-length test key r u = omega (arith, length-append (keyText key) (recordText r), key-length key, record-length test r u)
+line-length test key r u = omega (arith, length-append (keyText key) (recordText r), key-text-length key, record-length test r u)
 
 entry-length : (test : DataLength) (rule : Rule) (limit : ℕ) (e : Entry) → EntryRules test e → length (lineFor (e .key) (shown rule limit e)) ≤ 2 * length (entryBytes e)
 entry-length test rule limit e u = go (shown rule limit e) refl

@@ -10,7 +10,7 @@ use lib.Dec.{leb}
 use borrow.Author.Tests.{le-leb, lt-leb, leb-true}
 use Rattle.words.proofs.Laws.{splice-sets}
 use Rattle.text.specs.Text.{decimal, field, named}
-use Rattle.text.specs.Written.{Ends, WrittenAt}
+use Rattle.text.specs.Inner.Written.{Ends, WrittenAt}
 use Rattle.text.proofs.TextLaws.{decimal-short}
 use Rattle.layout.specs.Layout.{keysIn, arenaIn}
 use Rattle.records.specs.Model.{Entry}

@@ -9,7 +9,7 @@ use lib.ListN.{length, drop}
 use Rattle.laws.specs.Refusals.{cause, firstOf, orElse}
 use Rattle.words.specs.Field.{le, splice}
 use Rattle.text.specs.Text.{keyText, field, named}
-use Rattle.text.specs.Written.{WrittenAt}
+use Rattle.text.specs.Inner.Written.{WrittenAt}
 use Rattle.records.specs.declared.Kind.{Kind}
 use Rattle.records.specs.declared.Kind.the-variants.{Put, Tombstone}
 use Rattle.records.specs.declared.Record.{Record}

@@ -8,7 +8,7 @@ use records::cursor::Head;
 use records::cursor::key_at;
 use words::field;
 ghost use mathlib.Core.Path.{_≡_};
-ghost use Rattle.text.specs.Written.{Ends, WrittenAt};
+ghost use Rattle.text.specs.Inner.Written.{Ends, WrittenAt};
 ghost use Rattle.records.specs.Places.{entryAt};
 ghost use Rattle.records.specs.Within.{foundOf};
 ghost use Rattle.point.specs.Table.{tableOf};

@@ -14,31 +14,30 @@ use Rattle.fuse.specs.Asking.{graphHash, xorAt, containsOf}
 use Rattle.fuse.specs.Positions.{Usable, cellsIn, positionsOf}
 use Rattle.fuse.specs.declared.Sizes.{Sizes}
 use Rattle.peel.specs.declared.Graph.{Graph}
-use Rattle.peel.specs.Peel.{Peel, afterSteps, attempt, fill, put, peelsAll, cellsAfter, mixed, succeeds, cellsLaid}
-use Rattle.peel.specs.Loops.{GraphWhole}
-use Rattle.peel.specs.Sound.{Placed}
-use Rattle.peel.specs.Table.{peels, StandsFor, AttemptPost}
-use Rattle.peel.proofs.PeelLaws.{sound-start, sound-run, room, queued-once, run-ends, all-present}
+use Rattle.peel.specs.Peel.{Peel, afterSteps, attempt, fill, put, peelsAll, cellsAfter, mixed, succeeds, cellsLaid, AttemptPost}
+use Rattle.peel.specs.Inner.Table.{GraphWhole, peelsIn, StandsFor}
+use Rattle.peel.specs.Inner.Sound.{Placed}
+use Rattle.peel.proofs.PeelLaws.{sound-start, sound-run, queue-within, queued-once, run-ends, all-present}
 use Rattle.peel.proofs.PlaceLaws.{mixed-placed}
 use Rattle.peel.proofs.StepLaws.{all-peeled}
 
-module _ (segment number seed : ℕ) (u : Usable segment number) (hashes : List ℕ) where
-  placed : (h : ℕ) → 1 ≤ occurs h (mixed seed hashes) → Placed (cellsIn segment number) (positionsOf segment number) h
-  placed = mixed-placed segment number u seed hashes
+module _ (segment count seed : ℕ) (u : Usable segment count) (hashes : List ℕ) where
+  placed : (h : ℕ) → 1 ≤ occurs h (mixed seed hashes) → Placed (cellsIn segment count) (positionsOf segment count) h
+  placed = mixed-placed segment count u seed hashes
 
   -- over a whole attempt each cell is queued at most once: after any number of steps it was taken, or waits, once at most
-  pub cell-queued-once : (steps cell : ℕ) → occurs cell (afterSteps segment number seed hashes steps .taken) + occurs cell (afterSteps segment number seed hashes steps .queue) ≤ 1
-  cell-queued-once steps cell = queued-once (positionsOf segment number) (cellsIn segment number) (mixed seed hashes) placed steps cell
+  pub cell-queued-once : (steps cell : ℕ) → occurs cell (afterSteps segment count seed hashes steps .taken) + occurs cell (afterSteps segment count seed hashes steps .queue) ≤ 1
+  cell-queued-once steps cell = queued-once (positionsOf segment count) (cellsIn segment count) (mixed seed hashes) placed steps cell
 
   -- so as many places as there are cells are enough for all that were taken or wait
-  pub queue-fits : (steps : ℕ) → length (afterSteps segment number seed hashes steps .taken) + length (afterSteps segment number seed hashes steps .queue) ≤ cellsIn segment number
+  pub queue-fits : (steps : ℕ) → length (afterSteps segment count seed hashes steps .taken) + length (afterSteps segment count seed hashes steps .queue) ≤ cellsIn segment count
   queue-fits steps =
-      room (positionsOf segment number) (cellsIn segment number) (mixed seed hashes) _
-      (sound-run (positionsOf segment number) (cellsIn segment number) (mixed seed hashes) placed steps _ (sound-start (positionsOf segment number) (cellsIn segment number) (mixed seed hashes)))
+      queue-within (positionsOf segment count) (cellsIn segment count) (mixed seed hashes) _
+      (sound-run (positionsOf segment count) (cellsIn segment count) (mixed seed hashes) placed steps _ (sound-start (positionsOf segment count) (cellsIn segment count) (mixed seed hashes)))
 
   -- an attempt ends: as many steps as there are cells empty the queue
-  pub queue-empties : afterSteps segment number seed hashes (cellsIn segment number) .queue ≡ []
-  queue-empties = run-ends (positionsOf segment number) (cellsIn segment number) (mixed seed hashes) placed (cellsIn segment number) _ (sound-start (positionsOf segment number) (cellsIn segment number) (mixed seed hashes)) (omega arith)
+  pub queue-empties : afterSteps segment count seed hashes (cellsIn segment count) .queue ≡ []
+  queue-empties = run-ends (positionsOf segment count) (cellsIn segment count) (mixed seed hashes) placed (cellsIn segment count) _ (sound-start (positionsOf segment count) (cellsIn segment count) (mixed seed hashes)) (omega arith)
 
 -- ---- by the hashes left
 
@@ -73,13 +72,13 @@ mixed-count seed hash (x ∷ hashes) k =
       occurs-cons (graphHash seed hash) (graphHash seed x) (mixed seed hashes),
     ))
 
-module _ (segment number seed : ℕ) (u : Usable segment number) (hashes : List ℕ) (ok : succeeds segment number seed hashes ≡ true) where
+module _ (segment count seed : ℕ) (u : Usable segment count) (hashes : List ℕ) (ok : succeeds segment count seed hashes ≡ true) where
   -- if every hash was peeled, every hash's four cells xor to the low byte of its h
   pub hashes-present : (hash : ℕ) → 1 ≤ occurs hash hashes
-      → xorAt (cellsLaid segment number seed hashes) (positionsOf segment number (graphHash seed hash)) ≡ graphHash seed hash % 256
+      → xorAt (cellsLaid segment count seed hashes) (positionsOf segment count (graphHash seed hash)) ≡ graphHash seed hash % 256
   hashes-present hash k =
-      all-present (positionsOf segment number) (cellsIn segment number) (mixed seed hashes) (mixed-placed segment number u seed hashes)
-      (all-left (positionsOf segment number) (cellsIn segment number) (mixed seed hashes) ok) _ (mixed-count seed hash hashes k)
+      all-present (positionsOf segment count) (cellsIn segment count) (mixed seed hashes) (mixed-placed segment count u seed hashes)
+      (all-left (positionsOf segment count) (cellsIn segment count) (mixed seed hashes) ok) _ (mixed-count seed hash hashes k)
 
 -- so the closing membership check never fails
 pub check-never-fails : (s : Sizes) → Usable (s .segment) (s .count) → (hashes : List ℕ) → succeeds (s .segment) (s .count) (s .seed) hashes ≡ true
@@ -94,9 +93,9 @@ unfolding fill
 fill-length pos [] cells = refl
 fill-length pos (e ∷ es) cells = fill-length pos es (put pos e cells) ∙ length-set cells (e .cell) _
 
-pub cells-length : (segment number seed : ℕ) (hashes : List ℕ) → length (cellsLaid segment number seed hashes) ≡ cellsIn segment number
+pub cells-length : (segment count seed : ℕ) (hashes : List ℕ) → length (cellsLaid segment count seed hashes) ≡ cellsIn segment count
 unfolding cellsAfter
-cells-length segment number seed hashes = fill-length (positionsOf segment number) _ _ ∙ length-replicate (cellsIn segment number) 0
+cells-length segment count seed hashes = fill-length (positionsOf segment count) _ _ ∙ length-replicate (cellsIn segment count) 0
 
 -- ---- the outcome
 
@@ -108,22 +107,22 @@ module _ (g : Graph) (w : GraphWhole g) (hashes before wide narrow : List ℕ) (
   pub peeled-fits : n ≤ length hashes
   peeled-fits = omega (arith, whole-sum)
 
-  pub tried-no : n < length hashes → AttemptPost (g .segment) (g .count) (g .seed) hashes before before false
-  tried-no l = record { answer = sym no; cells = ap (λ (b : Bool). cond b (cellsLaid (g .segment) (g .count) (g .seed) hashes) before) (sym no) }
+  pub attempt-short : n < length hashes → AttemptPost (g .segment) (g .count) (g .seed) hashes before before false
+  attempt-short l = record { answer = sym no; cells = ap (λ (b : Bool). cond b (cellsLaid (g .segment) (g .count) (g .seed) hashes) before) (sym no) }
     where
       no : succeeds (g .segment) (g .count) (g .seed) hashes ≡ false
       no =
           ap (λ (c : ℕ). peelsAll (positionsOf (g .segment) (g .count)) c (mixed (g .seed) hashes)) (sym (w .whole))
           ∙ peels-some _ (g .cells) (mixed (g .seed) hashes) (λ e. omega (arith, whole-sum))
 
-  pub tried-yes : length hashes ≤ n → (after : List ℕ) → after ≡ fill (positionsOf (g .segment) (g .count)) (peels (g .cells) n wide narrow) (replicate (g .cells) 0)
+  pub attempt-whole : length hashes ≤ n → (after : List ℕ) → after ≡ fill (positionsOf (g .segment) (g .count)) (peelsIn (g .cells) n wide narrow) (replicate (g .cells) 0)
       → AttemptPost (g .segment) (g .count) (g .seed) hashes before after true
-  tried-yes l after e = record { answer = sym yes; cells = e ∙ full ∙ ap (λ (b : Bool). cond b (cellsLaid (g .segment) (g .count) (g .seed) hashes) before) (sym yes) }
+  attempt-whole l after e = record { answer = sym yes; cells = e ∙ full ∙ ap (λ (b : Bool). cond b (cellsLaid (g .segment) (g .count) (g .seed) hashes) before) (sym yes) }
     where
       yes : succeeds (g .segment) (g .count) (g .seed) hashes ≡ true
       yes =
           ap (λ (c : ℕ). peelsAll (positionsOf (g .segment) (g .count)) c (mixed (g .seed) hashes)) (sym (w .whole))
           ∙ peels-all _ (g .cells) (mixed (g .seed) hashes) (omega (arith, whole-sum))
 
-      full : fill (positionsOf (g .segment) (g .count)) (peels (g .cells) n wide narrow) (replicate (g .cells) 0) ≡ cellsLaid (g .segment) (g .count) (g .seed) hashes
+      full : fill (positionsOf (g .segment) (g .count)) (peelsIn (g .cells) n wide narrow) (replicate (g .cells) 0) ≡ cellsLaid (g .segment) (g .count) (g .seed) hashes
       full = filled-is (positionsOf (g .segment) (g .count)) (g .cells) (mixed (g .seed) hashes) _ (R .peeled) ∙ ap (λ (c : ℕ). cellsAfter (positionsOf (g .segment) (g .count)) c (mixed (g .seed) hashes)) (w .whole)

@@ -12,9 +12,9 @@ use lib.ListN.{length, getD, set, replicate, length-set, length-append, length-r
 use lib.Seq.{getD-set-same, getD-set-other}
 use Rattle.laws.proofs.Cases.{by-test}
 use Rattle.laws.specs.Count.{one, occurs, among, keep, without, rising}
-use Rattle.peel.specs.Peel.{Peel, Attempt, lying, degree, queued, begun, skip, peel, takeCell, next, oneStep, run, attempt, put, fill, Present, cellsAfter}
+use Rattle.peel.specs.Peel.{Peel, Attempt, lying, degree, queued, begun, skip, peel, takeCell, takeNext, oneStep, run, attempt, put, fill, Present, cellsAfter}
 use Rattle.fuse.specs.Asking.{xorAt}
-use Rattle.peel.specs.Sound.{Placed, Peelable, hashesPeeled, Sound}
+use Rattle.peel.specs.Inner.Sound.{Placed, Peelable, hashesPeeled, Sound}
 use Rattle.laws.proofs.XorLaws.{xor-swap, xor-back}
 use Rattle.laws.proofs.CountLaws.{occurs-nil, occurs-cons, occurs-here, occurs-other, occurs-append, occurs-below, among-once, occurs-without, length-without, pigeonhole, without-cons, rising-once, rising-not}
 
@@ -195,7 +195,7 @@ module _ (pos : ℕ → List ℕ) (c : ℕ) (hs : List ℕ) where
     sound-settle (h ∷ []) p q s e l S = sound-peel h p q s e l S
     sound-settle (h ∷ k ∷ ls) p q s e l S = sound-skip p q s e S
 
-    sound-next : (q : List ℕ) (s : Attempt) → s .queue ≡ q → Sound pos c hs s → Sound pos c hs (next pos q s)
+    sound-next : (q : List ℕ) (s : Attempt) → s .queue ≡ q → Sound pos c hs s → Sound pos c hs (takeNext pos q s)
     sound-next [] s e S = S
     sound-next (p ∷ q) s e S = sound-settle (lying pos p (s .left)) p q s e refl S
 
@@ -208,8 +208,8 @@ module _ (pos : ℕ → List ℕ) (c : ℕ) (hs : List ℕ) where
     sound-run (suc n) s S = sound-run n (oneStep pos s) (sound-step s S)
 
   -- the cells taken and those queued are at most c together
-  pub room : (s : Attempt) → Sound pos c hs s → length (s .taken) + length (s .queue) ≤ c
-  room s S =
+  pub queue-within : (s : Attempt) → Sound pos c hs s → length (s .taken) + length (s .queue) ≤ c
+  queue-within s S =
       omega (
         arith,
         length-append (s .taken) (s .queue),
@@ -228,22 +228,22 @@ pub run-empty : (pos : ℕ → List ℕ) (n : ℕ) (s : Attempt) → s .queue �
 unfolding run
 run-empty pos zero s e = refl
 run-empty pos (suc n) s e =
-    let k : oneStep pos s ≡ s = ap (λ (q : List ℕ). next pos q s) e in
+    let k : oneStep pos s ≡ s = ap (λ (q : List ℕ). takeNext pos q s) e in
     ap (run pos n) k ∙ run-empty pos n s e
 
 module _ (pos : ℕ → List ℕ) (c : ℕ) (hs : List ℕ) (placed : (h : ℕ) → 1 ≤ occurs h hs → Placed c pos h) where
   -- as many steps as there are cells not yet taken empty the queue
   pub run-ends : (n : ℕ) (s : Attempt) → Sound pos c hs s → c ≤ length (s .taken) + n → run pos n s .queue ≡ []
   unfolding run
-  run-ends zero s S k = drop-of-length-le (s .queue) {i = 0} (omega (arith, room pos c hs s S))
+  run-ends zero s S k = drop-of-length-le (s .queue) {i = 0} (omega (arith, queue-within pos c hs s S))
   run-ends (suc n) s S k = go (s .queue) refl (λ h. run-ends n (oneStep pos s) (sound-step pos c hs placed s S) h)
     where
       go : (q : List ℕ) → s .queue ≡ q → (c ≤ length (oneStep pos s .taken) + n → run pos n (oneStep pos s) .queue ≡ []) → run pos n (oneStep pos s) .queue ≡ []
       go [] e f =
-          let k : oneStep pos s ≡ s = ap (λ (q : List ℕ). next pos q s) e in
+          let k : oneStep pos s ≡ s = ap (λ (q : List ℕ). takeNext pos q s) e in
           ap (λ (t : Attempt). run pos n t .queue) k ∙ ap (λ (t : Attempt). t .queue) (run-empty pos n s e) ∙ e
       go (p ∷ q) e f =
-          f (omega (arith, ap (λ (q : List ℕ). length (next pos q s .taken)) e ∙ settle-taken pos (lying pos p (s .left)) p q s))
+          f (omega (arith, ap (λ (q : List ℕ). length (takeNext pos q s .taken)) e ∙ settle-taken pos (lying pos p (s .left)) p q s))
 
   -- an attempt keeps all of it to its end
   pub sound-attempt : Sound pos c hs (attempt pos c hs)

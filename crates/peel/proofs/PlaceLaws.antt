@@ -12,11 +12,11 @@ use Rattle.laws.proofs.CountLaws.{occurs-nil, occurs-other, occurs-none, occurs
 use Rattle.fuse.specs.Asking.{graphHash}
 use Rattle.peel.specs.declared.Graph.{Graph}
 use Rattle.peel.specs.Peel.{mixed}
-use Rattle.peel.specs.Loops.{GraphWhole}
+use Rattle.peel.specs.Inner.Table.{GraphWhole}
 use Rattle.fuse.specs.Positions.{Usable, cellsIn, cellOf, positionsOf}
 use Rattle.fuse.proofs.AskLaws.{graph-lt}
 use Rattle.fuse.proofs.PositionLaws.{cell-below, cell-apart, position-at, positions-length}
-use Rattle.peel.specs.Sound.{Placed}
+use Rattle.peel.specs.Inner.Sound.{Placed}
 
 pub positions-placed : (segment count h : ℕ) → Usable segment count → h < 2 ^ 64 → Placed (cellsIn segment count) (positionsOf segment count) h
 positions-placed segment count h u b =
@@ -40,13 +40,13 @@ whole-small g w = rw (w .whole) (w .usable .small)
 pub graph-placed : (g : Graph) → GraphWhole g → (seed hash h : ℕ) → h ≡ graphHash seed hash → Placed (g .cells) (positionsOf (g .segment) (g .count)) h
 graph-placed g w seed hash h e = rw (w .whole) (positions-placed (g .segment) (g .count) h (w .usable) (rw e (graph-lt seed hash)))
 
-pub mixed-placed : (segment number : ℕ) → Usable segment number → (seed : ℕ) (hashes : List ℕ) (h : ℕ) → 1 ≤ occurs h (mixed seed hashes)
-    → Placed (cellsIn segment number) (positionsOf segment number) h
-mixed-placed segment number u seed [] h k = absurd (omega (arith, occurs-nil h))
-mixed-placed segment number u seed (x ∷ hashes) h k =
+pub mixed-placed : (segment count : ℕ) → Usable segment count → (seed : ℕ) (hashes : List ℕ) (h : ℕ) → 1 ≤ occurs h (mixed seed hashes)
+    → Placed (cellsIn segment count) (positionsOf segment count) h
+mixed-placed segment count u seed [] h k = absurd (omega (arith, occurs-nil h))
+mixed-placed segment count u seed (x ∷ hashes) h k =
     by-test (eqb h (graphHash seed x))
-    (λ e. positions-placed segment number h u (rw (eqb-true h (graphHash seed x) e) (graph-lt seed x)))
-    (λ e. mixed-placed segment number u seed hashes h (omega (arith, occurs-other h (graphHash seed x) (mixed seed hashes) (eqb-false h (graphHash seed x) e))))
+    (λ e. positions-placed segment count h u (rw (eqb-true h (graphHash seed x) e) (graph-lt seed x)))
+    (λ e. mixed-placed segment count u seed hashes h (omega (arith, occurs-other h (graphHash seed x) (mixed seed hashes) (eqb-false h (graphHash seed x) e))))
 
 pub whole-placed : (g : Graph) → GraphWhole g → (hashes : List ℕ) (h : ℕ) → 1 ≤ occurs h (mixed (g .seed) hashes) → Placed (g .cells) (positionsOf (g .segment) (g .count)) h
 whole-placed g w hashes h k = rw (w .whole) (mixed-placed (g .segment) (g .count) (w .usable) (g .seed) hashes h k)

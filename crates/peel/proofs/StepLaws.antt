@@ -14,30 +14,29 @@ use Rattle.laws.proofs.Cases.{by-test}
 use Rattle.laws.specs.Count.{occurs, without, rising}
 use Rattle.laws.proofs.CountLaws.{occurs-cons, occurs-here, occurs-below, rising-not}
 use Rattle.fuse.specs.Asking.{xorAt}
-use Rattle.peel.specs.Peel.{Peel, Attempt, lying, skip, peel, takeCell, next, oneStep, run, begun, attempt, put, fill}
-use Rattle.peel.specs.Sound.{Placed, Peelable, hashesPeeled}
-use Rattle.peel.specs.Loops.{Below}
-use Rattle.peel.specs.Table.{xors, stack, peels, changed, plus, queuedBy, Queued, Tables, StandsFor}
-use Rattle.peel.proofs.PeelLaws.{lying-head, sound-step, sound-skip, room, sound-start}
+use Rattle.peel.specs.Peel.{Peel, Attempt, lying, skip, peel, takeCell, takeNext, oneStep, run, begun, attempt, put, fill}
+use Rattle.peel.specs.Inner.Sound.{Placed, Peelable, hashesPeeled}
+use Rattle.peel.specs.Inner.Table.{Below, xors, stack, peelsIn, changed, plus, queuedBy, Queued, Tables, StandsFor}
+use Rattle.peel.proofs.PeelLaws.{lying-head, sound-step, sound-skip, queue-within, sound-start}
 use Rattle.peel.proofs.TableLaws.{xors-one, stack-suc, stack-none, length-stack, stack-same, tables-remove, tables-same, noted-queued, changed-other, length-changed, degree-le}
 
 -- ---- the peel stack
 
-peels-suc : (c n : ℕ) (wide narrow : List ℕ) → peels c (suc n) wide narrow ≡ record { hash = getD wide (c + n) 0; cell = getD narrow (c + c + n) 0 } ∷ peels c n wide narrow
-unfolding peels
+peels-suc : (c n : ℕ) (wide narrow : List ℕ) → peelsIn c (suc n) wide narrow ≡ record { hash = getD wide (c + n) 0; cell = getD narrow (c + c + n) 0 } ∷ peelsIn c n wide narrow
+unfolding peelsIn
 peels-suc c n wide narrow = refl
 
-peels-none : (c : ℕ) (wide narrow : List ℕ) → peels c 0 wide narrow ≡ []
-unfolding peels
+peels-none : (c : ℕ) (wide narrow : List ℕ) → peelsIn c 0 wide narrow ≡ []
+unfolding peelsIn
 peels-none c wide narrow = refl
 
-length-peels : (c n : ℕ) (wide narrow : List ℕ) → length (peels c n wide narrow) ≡ n
+length-peels : (c n : ℕ) (wide narrow : List ℕ) → length (peelsIn c n wide narrow) ≡ n
 length-peels c zero wide narrow = ap length (peels-none c wide narrow)
 length-peels c (suc n) wide narrow = ap length (peels-suc c n wide narrow) ∙ ap suc (length-peels c n wide narrow)
 
 -- it goes by its entries
 peels-same : (c n : ℕ) (wide narrow wide' narrow' : List ℕ) → ((i : ℕ) → i < n → getD wide' (c + i) 0 ≡ getD wide (c + i) 0)
-    → ((i : ℕ) → i < n → getD narrow' (c + c + i) 0 ≡ getD narrow (c + c + i) 0) → peels c n wide' narrow' ≡ peels c n wide narrow
+    → ((i : ℕ) → i < n → getD narrow' (c + c + i) 0 ≡ getD narrow (c + c + i) 0) → peelsIn c n wide' narrow' ≡ peelsIn c n wide narrow
 peels-same c zero wide narrow wide' narrow' e f = peels-none c wide' narrow' ∙ sym (peels-none c wide narrow)
 peels-same c (suc n) wide narrow wide' narrow' e f =
     peels-suc c n wide' narrow'
@@ -60,11 +59,11 @@ settle-skip pos (h ∷ k ∷ hs) p q s e = refl
 module _ (pos : ℕ → List ℕ) (c : ℕ) (hs : List ℕ) (s : Attempt) (wide narrow : List ℕ) where
   -- the queue is never longer than there are cells
   pub top-le : (top n : ℕ) → StandsFor pos c hs s wide narrow top n → top ≤ c
-  top-le top n R = omega (arith, room pos c hs s (R .sound), ap length (R .waiting), length-stack c top narrow)
+  top-le top n R = omega (arith, queue-within pos c hs s (R .sound), ap length (R .waiting), length-stack c top narrow)
 
   -- an empty queue
   pub ready-empty : (n : ℕ) → StandsFor pos c hs s wide narrow 0 n → oneStep pos s ≡ s
-  ready-empty n R = ap (λ (l : List ℕ). next pos l s) (R .waiting ∙ stack-none c narrow)
+  ready-empty n R = ap (λ (l : List ℕ). takeNext pos l s) (R .waiting ∙ stack-none c narrow)
 
   module _ (t n : ℕ) (R : StandsFor pos c hs s wide narrow (suc t) n) where
     p : ℕ
@@ -82,7 +81,7 @@ module _ (pos : ℕ → List ℕ) (c : ℕ) (hs : List ℕ) (s : Attempt) (wide 
         (omega (arith, ap (occurs p) taken-cell, occurs-here p (stack c t narrow)))
 
     settled : oneStep pos s ≡ takeCell pos (lying pos p (s .left)) p (stack c t narrow) s
-    settled = ap (λ (l : List ℕ). next pos l s) taken-cell
+    settled = ap (λ (l : List ℕ). takeNext pos l s) taken-cell
 
     -- a cell of another degree is skipped
     pub ready-skip : (getD narrow (getD narrow (c + t) 0) 0 ≡ 1 → ⊥) → StandsFor pos c hs (oneStep pos s) wide narrow t n
@@ -193,7 +192,7 @@ module _ (pos : ℕ → List ℕ) (c : ℕ) (hs : List ℕ) (s : Attempt) (wide 
 
           -- there is room on the queue
           pub room-queue : length (queuedBy narrow₂ ps (stack c t narrow₂)) ≤ c
-          room-queue = omega (arith, ap length next-queue, room pos c hs (oneStep pos s) (sound-step pos c hs (R .placed) s (R .sound)))
+          room-queue = omega (arith, ap length next-queue, queue-within pos c hs (oneStep pos s) (sound-step pos c hs (R .placed) s (R .sound)))
 
           -- those of its cells that have degree 1 are queued
           pub ready-peel : (narrow₃ : List ℕ) (u : ℕ) → length narrow₃ ≡ length narrow₂ → Queued c (queuedBy narrow₂ ps (stack c t narrow₂)) u narrow₂ narrow₃
@@ -214,7 +213,7 @@ module _ (pos : ℕ → List ℕ) (c : ℕ) (hs : List ℕ) (s : Attempt) (wide 
                     (R .peeled
                     ∙ sym (peels-same c n wide narrow wide₂ narrow₃ (λ i k. wide-kept (c + i) (omega arith) (λ z. omega arith))
                     (λ i k. Q .behind (c + c + i) (omega arith) ∙ narrow-kept (c + c + i) (omega arith) (λ z. omega arith))))
-                    ∙ sym (peels-suc c n wide₂ narrow₃) ∙ ap (λ (m : ℕ). peels c m wide₂ narrow₃) (sym (add-one n));
+                    ∙ sym (peels-suc c n wide₂ narrow₃) ∙ ap (λ (m : ℕ). peelsIn c m wide₂ narrow₃) (sym (add-one n));
                 wide-room = omega (arith, R .wide-room, wide-length);
                 narrow-room = omega (arith, R .narrow-room, narrow-length, l);
               }
@@ -254,17 +253,17 @@ unfolding fill
 fill-nil pos cells = refl
 
 pub fill-turn : (pos : ℕ → List ℕ) (c : ℕ) (wide narrow cells whole : List ℕ) (i x : ℕ) → 0 < i → x ≡ xorAt cells (pos (getD wide (c + (i - 1)) 0))
-    → fill pos (peels c i wide narrow) cells ≡ whole
-    → fill pos (peels c (i - 1) wide narrow) (set cells (getD narrow (c + c + (i - 1)) 0) (bitXor (getD wide (c + (i - 1)) 0 % 256) x)) ≡ whole
+    → fill pos (peelsIn c i wide narrow) cells ≡ whole
+    → fill pos (peelsIn c (i - 1) wide narrow) (set cells (getD narrow (c + c + (i - 1)) 0) (bitXor (getD wide (c + (i - 1)) 0 % 256) x)) ≡ whole
 fill-turn pos c wide narrow cells whole zero x h e w = absurd (not-suc-le-zero h)
 fill-turn pos c wide narrow cells whole (suc i) x h e w =
     let k : suc i - 1 ≡ i = omega arith in
     let e' : x ≡ xorAt cells (pos (getD wide (c + i) 0)) = rw k at e in
     rw (k, e') (sym (fill-cons pos _ _ cells) ∙ ap (λ (es : List Peel). fill pos es cells) (sym (peels-suc c i wide narrow)) ∙ w)
 
-pub fill-end : (pos : ℕ → List ℕ) (c : ℕ) (wide narrow cells whole : List ℕ) (i : ℕ) → i ≡ 0 → fill pos (peels c i wide narrow) cells ≡ whole → cells ≡ whole
+pub fill-end : (pos : ℕ → List ℕ) (c : ℕ) (wide narrow cells whole : List ℕ) (i : ℕ) → i ≡ 0 → fill pos (peelsIn c i wide narrow) cells ≡ whole → cells ≡ whole
 fill-end pos c wide narrow cells whole i e w =
-    sym (ap (λ (es : List Peel). fill pos es cells) (ap (λ (m : ℕ). peels c m wide narrow) e ∙ peels-none c wide narrow) ∙ fill-nil pos cells) ∙ w
+    sym (ap (λ (es : List Peel). fill pos es cells) (ap (λ (m : ℕ). peelsIn c m wide narrow) e ∙ peels-none c wide narrow) ∙ fill-nil pos cells) ∙ w
 
 -- ---- a whole attempt
 
@@ -289,11 +288,11 @@ pub all-peeled : (pos : ℕ → List ℕ) (c : ℕ) (hs : List ℕ) (s : Attempt
 all-peeled pos c hs s wide narrow top n R = omega (arith, R .sound .sum, ap length (R .peeled), length-peels c n wide narrow)
 
 -- each hash was peeled at a cell below c
-cells-below : (pos : ℕ → List ℕ) (c n : ℕ) (wide narrow hs : List ℕ) → ((i : ℕ) → i < n → Placed c pos (getD wide (c + i) 0)) → Peelable pos (peels c n wide narrow) hs
+cells-below : (pos : ℕ → List ℕ) (c n : ℕ) (wide narrow hs : List ℕ) → ((i : ℕ) → i < n → Placed c pos (getD wide (c + i) 0)) → Peelable pos (peelsIn c n wide narrow) hs
     → (i : ℕ) → i < n → getD narrow (c + c + i) 0 < c
 cells-below pos c zero wide narrow hs ok g i h = absurd (not-suc-le-zero h)
 cells-below pos c (suc n) wide narrow hs ok g i h =
-    let g' : Peelable pos (record { hash = getD wide (c + n) 0; cell = getD narrow (c + c + n) 0 } ∷ peels c n wide narrow) hs =
+    let g' : Peelable pos (record { hash = getD wide (c + n) 0; cell = getD narrow (c + c + n) 0 } ∷ peelsIn c n wide narrow) hs =
     subst (λ (es : List Peel). Peelable pos es hs) (peels-suc c n wide narrow) g in
     by-test (ltb i n)
     (λ t. cells-below pos c n wide narrow _ (λ j k. ok j (omega arith)) (g' .2) i (ltb-true i n t))
@@ -301,7 +300,7 @@ cells-below pos c (suc n) wide narrow hs ok g i h =
     let e : i ≡ n = omega (arith, ltb-false i n t) in
     rw e (occurs-below c (getD narrow (c + c + n) 0) (pos (getD wide (c + n) 0)) (ok n (omega arith) .below) (ltb-true 0 _ (g' .0))))
 
-peels-hash : (c n : ℕ) (wide narrow : List ℕ) (i : ℕ) → i < n → 1 ≤ occurs (getD wide (c + i) 0) (hashesPeeled (peels c n wide narrow))
+peels-hash : (c n : ℕ) (wide narrow : List ℕ) (i : ℕ) → i < n → 1 ≤ occurs (getD wide (c + i) 0) (hashesPeeled (peelsIn c n wide narrow))
 peels-hash c zero wide narrow i h = absurd (not-suc-le-zero h)
 peels-hash c (suc n) wide narrow i h =
     rw (peels-suc c n wide narrow)
@@ -310,11 +309,11 @@ peels-hash c (suc n) wide narrow i h =
     omega (
       arith,
       peels-hash c n wide narrow i (ltb-true i n t),
-      occurs-cons (getD wide (c + i) 0) (getD wide (c + n) 0) (hashesPeeled (peels c n wide narrow)),
+      occurs-cons (getD wide (c + i) 0) (getD wide (c + n) 0) (hashesPeeled (peelsIn c n wide narrow)),
     ))
     (λ t.
     let e : i ≡ n = omega (arith, ltb-false i n t) in
-    rw e (omega (arith, occurs-here (getD wide (c + n) 0) (hashesPeeled (peels c n wide narrow))))))
+    rw e (omega (arith, occurs-here (getD wide (c + n) 0) (hashesPeeled (peelsIn c n wide narrow))))))
 
 pub peeled-below : (pos : ℕ → List ℕ) (c : ℕ) (hs : List ℕ) (s : Attempt) (wide narrow : List ℕ) (top n : ℕ) → StandsFor pos c hs s wide narrow top n
     → (i : ℕ) → i < n → getD narrow (c + c + i) 0 < c

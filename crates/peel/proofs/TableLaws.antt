@@ -16,17 +16,16 @@ use Rattle.laws.specs.Count.{one, occurs, among, keep, without, rising}
 use Rattle.laws.proofs.Lists.{drop-next}
 use Rattle.laws.proofs.XorLaws.{xor-swap, xor-back}
 use Rattle.laws.proofs.CountLaws.{occurs-nil, occurs-cons, occurs-here, occurs-other, occurs-at, occurs-below, among-once, without-cons, rising-cons, rising-none}
-use Rattle.peel.specs.Sound.{Placed}
+use Rattle.peel.specs.Inner.Sound.{Placed}
 use Rattle.peel.specs.Peel.{lying, degree, queued}
-use Rattle.peel.specs.Table.{xors, stack, changed, plus, queuedBy, Queued, Tables}
-use Rattle.peel.specs.Loops.{Below}
+use Rattle.peel.specs.Inner.Table.{xors, stack, changed, plus, queuedBy, Queued, Tables, Below}
 use Rattle.peel.proofs.PeelLaws.{lying-cons, lying-nil, degree-nil, degree-cons, degree-without, queued-cons, queued-nil}
 
 -- ---- the folds over cells
 
 -- the cells ps are all below c
-pub cell-below : (c : ℕ) (ps : List ℕ) → Below c ps → (i : ℕ) → i < length ps → getD ps i 0 < c
-cell-below c ps b i h = occurs-below c (getD ps i 0) ps b (occurs-at ps i h)
+pub cell-at-below : (c : ℕ) (ps : List ℕ) → Below c ps → (i : ℕ) → i < length ps → getD ps i 0 < c
+cell-at-below c ps b i h = occurs-below c (getD ps i 0) ps b (occurs-at ps i h)
 
 module _ (f : ℕ → ℕ) where
   changed-cons : (p : ℕ) (ps d : List ℕ) → changed f (p ∷ ps) d ≡ changed f ps (set d p (f (getD d p 0)))
@@ -71,7 +70,7 @@ module _ (f : ℕ → ℕ) where
 
   -- the next cell lies inside
   pub changing-in : (ps d₀ : List ℕ) (i : ℕ) (d : List ℕ) → i < length ps → Below (length d₀) ps → Changing ps d₀ i d → getD ps i 0 < length d
-  changing-in ps d₀ i d hi b A = omega (arith, A .size, cell-below (length d₀) ps b i hi)
+  changing-in ps d₀ i d hi b A = omega (arith, A .size, cell-at-below (length d₀) ps b i hi)
 
   pub changing-turn : (ps d₀ : List ℕ) (i : ℕ) (d : List ℕ) → i < length ps → Changing ps d₀ i d → Changing ps d₀ (i + 1) (set d (getD ps i 0) (f (getD d (getD ps i 0) 0)))
   changing-turn ps d₀ i d hi A =

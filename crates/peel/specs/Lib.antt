@@ -1,4 +1,2 @@
 pub mod Peel
-pub mod Sound
-pub mod Loops
-pub mod Table
+pub mod Inner

@@ -1,6 +1,6 @@
 -- One attempt to build a filter (document 01, "Arithmetic and construction"), over the four cells `pos h` of each h.
 use mathlib.Core.Path.{_≡_}
-use mathlib.Core.Bool.{Bool}
+use mathlib.Core.Bool.{Bool, cond}
 use mathlib.Core.List.{List, [], _∷_, map}
 use Prim.Native.Nat.{ℕ, zero, suc, _%_}
 use lib.Dec.{eqb}
@@ -62,12 +62,13 @@ module _ (pos : ℕ → List ℕ) where
   takeCell (h ∷ k ∷ hs) p q s = skip p q s
 
   -- the next cell of the queue: the last one that was put on it
-  abbrev pub next : List ℕ → Attempt → Attempt
-  next [] s = s
-  next (p ∷ q) s = takeCell (lying p (s .left)) p q s
+  abbrev pub takeNext : List ℕ → Attempt → Attempt
+  takeNext [] s = s
+  takeNext (p ∷ q) s = takeCell (lying p (s .left)) p q s
 
+  -- one step
   abbrev pub oneStep : Attempt → Attempt
-  oneStep s = next (s .queue) s
+  oneStep s = takeNext (s .queue) s
 
   -- n steps
   unfoldable pub run : ℕ → Attempt → Attempt
@@ -114,3 +115,8 @@ succeeds segment count seed hashes = peelsAll (positionsOf segment count) (cells
 -- the cells that it fills then
 abbrev pub cellsLaid : (segment count seed : ℕ) → List ℕ → List ℕ
 cellsLaid segment count seed hashes = cellsAfter (positionsOf segment count) (cellsIn segment count) (mixed seed hashes)
+
+-- an attempt's outcome: whether every hash was peeled; the cells filled if so, and else left as they were
+pub record AttemptPost (segment count seed : ℕ) (hashes before after : List ℕ) (r : Bool) : Type 0 where
+  pub answer : r ≡ succeeds segment count seed hashes
+  pub cells : after ≡ cond (succeeds segment count seed hashes) (cellsLaid segment count seed hashes) before

@@ -1,15 +1,14 @@
 // One attempt to build a filter, over lent workspace: wide [xors c | hashes peeled n], narrow [degrees c | queue c | cells peeled n].
 ghost use mathlib.Core.Path.{_≡_};
-ghost use mathlib.Core.List.{List, [], _∷_};
+ghost use mathlib.Core.List.{List, []};
 ghost use Prim.Native.Nat.{ℕ, _+_, _<_, _≤_, _^_};
 ghost use lib.Dec.{eqb};
 ghost use lib.Bits.{bitXor};
 ghost use lib.ListN.{length, getD};
 ghost use Rattle.laws.specs.Count.{keep, rising};
 ghost use Rattle.fuse.specs.Positions.{positionsOf};
-ghost use Rattle.peel.specs.Peel.{Attempt, oneStep, begun, attempt, fill, mixed};
-ghost use Rattle.peel.specs.Table.{stack, queuedBy, changed, plus, peels, Queued, Tables, StandsFor, AttemptPost};
-ghost use Rattle.peel.specs.Loops.{Below, GraphWhole};
+ghost use Rattle.peel.specs.Peel.{Attempt, oneStep, begun, attempt, fill, mixed, AttemptPost};
+ghost use Rattle.peel.specs.Inner.Table.{stack, queuedBy, changed, plus, peelsIn, Queued, Tables, StandsFor, Below, GraphWhole};
 use words::part;
 
 // What a hash adds to the degrees of its cells, which wrap: 1 where it joins them, and 2^32 − 1, which is one less, where it leaves them.
@@ -154,7 +153,7 @@ fn peel_all(wide: &mut [u64], narrow: &mut [u32], g: Graph, top: usize) -> usize
 fn fill(cells: &mut [u8], wide: &[u64], narrow: &[u32], g: Graph, n: usize)
     requires { ⌜ GraphWhole g × (length (now cells) ≡ g .cells) × (g .cells + n ≤ length (now wide)) × (g .cells + g .cells + n ≤ length (now narrow)) ⌝ }
     requires { ⌜ ((i : ℕ) → i < n → getD (now narrow) (g .cells + g .cells + i) 0 < g .cells) ⌝ }
-    ensures { λ r. ⌜ now (cells .exit) ≡ fill (positionsOf (g .segment) (g .count)) (peels (g .cells) n (now (wide .entry)) (now (narrow .entry))) (now (cells .entry)) ⌝ }
+    ensures { λ r. ⌜ now (cells .exit) ≡ fill (positionsOf (g .segment) (g .count)) (peelsIn (g .cells) n (now (wide .entry)) (now (narrow .entry))) (now (cells .entry)) ⌝ }
 {
     let c = g.cells;
     let mut i = n;

@@ -129,12 +129,12 @@ queue-bound : (hashes : List ℕ) → 1 ≤ length hashes → length hashes ≤ 
 unfolding sizesOf
 queue-bound hashes some few i =
     let segment = sizesOf (length hashes) .segment in
-    let number = sizesOf (length hashes) .count in
-    let u : Usable segment number = usable (length hashes) some (omega arith) in
+    let count = sizesOf (length hashes) .count in
+    let u : Usable segment count = usable (length hashes) some (omega arith) in
     record {
-      cell-queued-once = peeling.cell-queued-once segment number (mixOf i) u (sorted hashes);
-      queue-fits = peeling.queue-fits segment number (mixOf i) u (sorted hashes);
-      queue-empties = peeling.queue-empties segment number (mixOf i) u (sorted hashes);
+      cell-queued-once = peeling.cell-queued-once segment count (mixOf i) u (sorted hashes);
+      queue-fits = peeling.queue-fits segment count (mixOf i) u (sorted hashes);
+      queue-empties = peeling.queue-empties segment count (mixOf i) u (sorted hashes);
     }
 
 -- ---- the theorems

@@ -18,7 +18,7 @@ use Rattle.fuse.proofs.PositionLaws.{cell-below}
 use Rattle.sizing.specs.Sizing.{segmentOf, segmentsOf, sizesOf}
 use Rattle.sizing.proofs.SizedLaws.{usable}
 use Rattle.sort.specs.Sort.{insert, sorted}
-use Rattle.peel.specs.Peel.{Attempt, lying, degree, queued, begun, takeCell, next, oneStep, run, attempt, peelsAll, succeeds}
+use Rattle.peel.specs.Peel.{Attempt, lying, degree, queued, begun, takeCell, takeNext, oneStep, run, attempt, peelsAll, succeeds}
 use Rattle.peel.proofs.PeelLaws.{lying-nil, lying-cons, degree-nil, degree-cons, queued-yes, queued-no}
 use Rattle.peel.proofs.PlaceLaws.{positions-placed}
 use Rattle.filter.specs.declared.Built.the-variants.{Positive}
@@ -33,7 +33,7 @@ module _ (pos : ℕ → List ℕ) where
   none-stays zero s e = e
   none-stays (suc n) s e = none-stays n (oneStep pos s) (go (s .queue))
     where
-      go : (q : List ℕ) → next pos q s .left ≡ []
+      go : (q : List ℕ) → takeNext pos q s .left ≡ []
       go [] = e
       go (p ∷ q) = ap (λ (l : List ℕ). takeCell pos l p q s .left) (ap (lying pos p) e ∙ lying-nil pos p) ∙ e
 
@@ -51,7 +51,7 @@ module _ (pos : ℕ → List ℕ) where
     -- so the first step takes it off
     first-step : (s : Attempt) (p : ℕ) (q : List ℕ) → s .left ≡ h ∷ [] → s .queue ≡ p ∷ q → degree pos p (h ∷ []) ≡ 1 → oneStep pos s .left ≡ []
     first-step s p q l e d =
-        ap (λ (x : List ℕ). next pos x s .left) e
+        ap (λ (x : List ℕ). takeNext pos x s .left) e
         ∙ ap (λ (x : List ℕ). takeCell pos x p q s .left) (ap (lying pos p) l ∙ alone p d)
         ∙ ap (without h) l ∙ without-it
 
@@ -74,22 +74,22 @@ cell-peels pos zero h p low lies = absurd (omega arith)
 cell-peels pos (suc n) h p low lies = one-peels pos h n p low lies
 
 -- the first of its four cells is one of them
-first-cell : (segment number h : ℕ) → 1 ≤ occurs (cellOf segment number h 0) (positionsOf segment number h)
+first-cell : (segment count h : ℕ) → 1 ≤ occurs (cellOf segment count h 0) (positionsOf segment count h)
 unfolding positionsOf
-first-cell segment number h = omega (arith, occurs-here (cellOf segment number h 0) (cellOf segment number h 1 ∷ cellOf segment number h 2 ∷ cellOf segment number h 3 ∷ []))
+first-cell segment count h = omega (arith, occurs-here (cellOf segment count h 0) (cellOf segment count h 1 ∷ cellOf segment count h 2 ∷ cellOf segment count h 3 ∷ []))
 
-one-hash-peels : (segment number seed hash : ℕ) → Usable segment number → succeeds segment number seed (hash ∷ []) ≡ true
-one-hash-peels segment number seed hash u =
-    let placed = positions-placed segment number (graphHash seed hash) u (graph-lt seed hash) in
-    cell-peels (positionsOf segment number) (cellsIn segment number) (graphHash seed hash) (cellOf segment number (graphHash seed hash) 0)
-    (cell-below segment number u (graphHash seed hash) (graph-lt seed hash) 0 (omega arith))
+one-hash-peels : (segment count seed hash : ℕ) → Usable segment count → succeeds segment count seed (hash ∷ []) ≡ true
+one-hash-peels segment count seed hash u =
+    let placed = positions-placed segment count (graphHash seed hash) u (graph-lt seed hash) in
+    cell-peels (positionsOf segment count) (cellsIn segment count) (graphHash seed hash) (cellOf segment count (graphHash seed hash) 0)
+    (cell-below segment count u (graphHash seed hash) (graph-lt seed hash) 0 (omega arith))
     (omega (
       arith,
-      degree-cons (positionsOf segment number) (cellOf segment number (graphHash seed hash) 0) (graphHash seed hash) [],
-      degree-nil (positionsOf segment number) (cellOf segment number (graphHash seed hash) 0),
-      among-once (cellOf segment number (graphHash seed hash) 0) (positionsOf segment number (graphHash seed hash)) (placed .apart (cellOf segment number (graphHash seed hash) 0)),
-      placed .apart (cellOf segment number (graphHash seed hash) 0),
-      first-cell segment number (graphHash seed hash),
+      degree-cons (positionsOf segment count) (cellOf segment count (graphHash seed hash) 0) (graphHash seed hash) [],
+      degree-nil (positionsOf segment count) (cellOf segment count (graphHash seed hash) 0),
+      among-once (cellOf segment count (graphHash seed hash) 0) (positionsOf segment count (graphHash seed hash)) (placed .apart (cellOf segment count (graphHash seed hash) 0)),
+      placed .apart (cellOf segment count (graphHash seed hash) 0),
+      first-cell segment count (graphHash seed hash),
     ))
 
 sorted-one : (hash : ℕ) → sorted (hash ∷ []) ≡ hash ∷ []

@@ -114,7 +114,7 @@ pub record Answers : Type 0 where
   pub fuse-values : (s : Sizes) (cells : List ℕ) → Accepted s (length cells) → s .seed < 2 ^ 64
       → (readRefusal (readOf (fuseHeader s ++ cells)) ≡ 0)
       × (readValues (readOf (fuseHeader s ++ cells)) ≡ 1 ∷ s .keys ∷ s .seed ∷ s .segment ∷ s .count ∷ length cells ∷ [])
-  -- filter::Answer: 1 for every hash of a Positive filter; of a Fuse filter 1 or 0 as its cells say
+  -- filter::Asked: 1 for every hash of a Positive filter; of a Fuse filter 1 or 0 as its cells say
   pub positive-number : (hash : ℕ) → askNumber (askOf positiveBytes hash) ≡ 1
   pub fuse-number : (s : Sizes) (cells : List ℕ) → Accepted s (length cells) → s .seed < 2 ^ 64 → (hash : ℕ)
       → askNumber (askOf (fuseHeader s ++ cells) hash) ≡ cond (containsOf cells s hash) 1 0

@@ -11,7 +11,8 @@ use lib.ListN.{length, take, drop, set, length-append, length-drop, length-set}
 use lib.Seq.{drop-cons, getD-set-same, drop-set-lt}
 use borrow.Rule.Slice.PartAt.{part-to-end}
 use borrow.Author.Tests.{ltb-true, ltb-false, lt-ltb, le-ltb}
-use Rattle.text.specs.Text.{digitsIn, decimal, readFrom, DigitsLaid, hexOf, keyText}
+use Rattle.text.specs.Text.{digitsIn, decimal, readFrom, hexOf, keyText}
+use Rattle.text.specs.Inner.Written.{DigitsLaid}
 
 -- ---- decimal digits
 
@@ -80,20 +81,20 @@ hex-length [] = refl
 hex-length (b ∷ bs) = let e = hex-length bs in omega arith
 
 -- a key that is empty, and one that is not
-pub key-none : (key : List ℕ) → length key ≡ 0 → keyText key ≡ 45 ∷ []
+pub key-text-none : (key : List ℕ) → length key ≡ 0 → keyText key ≡ 45 ∷ []
 unfolding keyText
-key-none [] e = refl
-key-none (b ∷ bs) e = absurd (suc-ne-zero _ e)
+key-text-none [] e = refl
+key-text-none (b ∷ bs) e = absurd (suc-ne-zero _ e)
 
-pub key-some : (key : List ℕ) → (length key ≡ 0 → ⊥) → keyText key ≡ hexOf key
+pub key-text-some : (key : List ℕ) → (length key ≡ 0 → ⊥) → keyText key ≡ hexOf key
 unfolding keyText
-key-some [] n = absurd (n refl)
-key-some (b ∷ bs) n = refl
+key-text-some [] n = absurd (n refl)
+key-text-some (b ∷ bs) n = refl
 
-pub key-length : (key : List ℕ) → length (keyText key) ≤ 1 + 2 * length key
+pub key-text-length : (key : List ℕ) → length (keyText key) ≤ 1 + 2 * length key
 unfolding keyText
-key-length [] = omega arith
-key-length (b ∷ bs) = rw (hex-length (b ∷ bs)) (omega arith)
+key-text-length [] = omega arith
+key-text-length (b ∷ bs) = rw (hex-length (b ∷ bs)) (omega arith)
 
 -- ---- the digits, laid down from the end of an array
 

@@ -8,7 +8,7 @@ use mathlib.Core.List.{List, [], _∷_, _++_}
 use lib.ListN.{length, getD, drop, set, length-append, drop-of-length-le}
 use lib.Seq.{sets, drop-cons}
 use Rattle.text.specs.Text.{hexDigit, hexOf}
-use Rattle.text.specs.Written.{Ends, WrittenAt}
+use Rattle.text.specs.Inner.Written.{Ends, WrittenAt}
 
 pub sets-append : (before : List ℕ) (at : ℕ) (s t : List ℕ) → sets before at (s ++ t) ≡ sets (sets before at s) (at + length s) t
 sets-append before at [] t = rw add-zero

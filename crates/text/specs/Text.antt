@@ -1,10 +1,8 @@
 -- Numbers and byte strings as text, in ASCII.
-use Prim.Native.Nat.{ℕ, zero, suc, _+_, _-_, _*_, _/_, _%_, _<_}
-use mathlib.Core.Path.{_≡_}
+use Prim.Native.Nat.{ℕ, zero, suc, _+_, _-_, _*_, _/_, _%_}
 use mathlib.Core.Bool.{cond}
 use mathlib.Core.List.{List, [], _∷_, _++_}
 use lib.Dec.{ltb}
-use lib.ListN.{length, drop}
 
 -- the decimal digits of n, the most significant first, in at most so many steps
 unfoldable pub digitsIn : ℕ → ℕ → List ℕ
@@ -19,12 +17,6 @@ decimal n = digitsIn (suc n) n
 unfoldable pub readFrom : ℕ → List ℕ → ℕ
 readFrom n [] = n
 readFrom n (d ∷ ds) = readFrom (10 * n + (d - 48)) ds
-
--- the digits of n stand at the end of an array of 20 bytes
-pub record DigitsLaid (n from : ℕ) (bytes : List ℕ) : Type 0 where
-  pub here : from < 20
-  pub whole : length bytes ≡ 20
-  pub digits : drop from bytes ≡ decimal n
 
 -- a digit in lower-case hex
 abbrev pub hexDigit : ℕ → ℕ

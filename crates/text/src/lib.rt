@@ -4,8 +4,8 @@ ghost use mathlib.Core.Path.{_≡_};
 ghost use mathlib.Core.List.{[], _∷_};
 ghost use Prim.Native.Nat.{_<_};
 ghost use lib.ListN.{set};
-ghost use Rattle.text.specs.Text.{decimal, DigitsLaid, hexDigit, hexOf, keyText, field, named};
-ghost use Rattle.text.specs.Written.{Ends, WrittenAt};
+ghost use Rattle.text.specs.Text.{decimal, hexDigit, hexOf, keyText, field, named};
+ghost use Rattle.text.specs.Inner.Written.{DigitsLaid, Ends, WrittenAt};
 
 // The decimal digits of a number, at the end of an array.
 struct Digits {

@@ -3,13 +3,10 @@
 use mathlib.Core.Path.{sym, _∙_}
 use mathlib.Core.Bool.{true, false}
 use Rattle.fuse.proofs.FitLaws.{fitting-accepted}
-use Rattle.filter.proofs.AskLaws.{ask-positive, ask-refused, ask-fuse, ask-unfit}
+use Rattle.filter.proofs.AskLaws.{ask-positive, ask-unread, ask-fuse, ask-unfit}
 use borrow.Author.Needs.{needs}
 use Rattle.filter.proofs.ask_cells.Statement.{statement}
 use Rattle.filter.proofs.ask_cells.Tie as tie
-
-enum-told : tie.Need-enum-told
-enum-told c = search needs
 
 contains-requires : tie.Need-contains-requires
 contains-requires c κs = fitting-accepted (c .before .before .before .filter .given .0 .0) _ (sym (c .before .fits2 .ensures) ∙ c .if1 .taken) .fits
@@ -42,13 +39,13 @@ returns-4 c =
 returns-5 : tie.Need-returns-5
 returns-5 c =
     let a = c .before .before .before .args in
-    ask-refused (a .filter) (a .cells .now) (a .hash) (c .enum-told2 .given .1)
+    ask-unread (a .filter) (a .cells .now) (a .hash) (c .enum-told2 .given .1)
 
 pub ask-cells-spec : {M : Type 1} → statement M
 ask-cells-spec =
     tie.close
     (tie.spec
-    enum-told
+    (λ c. search needs)
     (λ c. search needs)
     (λ c κs. search needs)
     contains-requires

@@ -2,8 +2,8 @@
 use mathlib.Core.Path.{_≡_, sym, ap, _∙_, subst}
 use Prim.Native.Nat.{ℕ}
 use lib.ListN.{length, replicate}
-use Rattle.filter.specs.Building.{Roomy}
-use Rattle.filter.proofs.BuildingLaws.{roomy, build-refused, build-done}
+use Rattle.filter.specs.Inner.Building.{Roomy}
+use Rattle.filter.proofs.BuildingLaws.{roomy, build-stopped, build-done}
 use borrow.Author.Needs.{needs}
 use Rattle.filter.proofs.build.Statement.{statement}
 use Rattle.filter.proofs.build.Tie as tie
@@ -11,7 +11,7 @@ use Rattle.filter.proofs.build.Tie as tie
 returns : tie.Need-returns
 returns c =
     let a = c .before .before .before .before .before .before .args in
-    build-refused (a .hashes .now) (a .wide .now) (a .narrow .now) (a .out .now) (c .before .refusal .result) (c .before .refusal .ensures) (c .if1 .taken)
+    build-stopped (a .hashes .now) (a .wide .now) (a .narrow .now) (a .out .now) (c .before .refusal .result) (c .before .refusal .ensures) (c .if1 .taken)
 
 lay-requires : tie.Need-lay-requires
 lay-requires c κs =

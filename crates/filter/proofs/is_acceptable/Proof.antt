@@ -6,9 +6,6 @@ use borrow.Author.Needs.{needs}
 use Rattle.filter.proofs.is_acceptable.Statement.{statement}
 use Rattle.filter.proofs.is_acceptable.Tie as tie
 
-enum-told : tie.Need-enum-told
-enum-told c = search needs
-
 returns : tie.Need-returns
 returns c = acceptable-positive (c .before .before .args .filter) (c .before .before .args .cells) (c .enum-told .given .1)
 
@@ -24,4 +21,4 @@ returns-3 c = acceptable-refused (c .before .before .args .filter) (c .before .b
 pub is-acceptable-spec : {M : Type 1} → statement M
 is-acceptable-spec =
     tie.close
-    (tie.spec enum-told (λ c. search needs) (λ c κs. search needs) (λ c. search needs) returns returns-2 returns-3)
+    (tie.spec (λ c. search needs) (λ c. search needs) (λ c κs. search needs) (λ c. search needs) returns returns-2 returns-3)

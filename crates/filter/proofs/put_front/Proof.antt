@@ -10,9 +10,6 @@ use borrow.Author.Needs.{needs}
 use Rattle.filter.proofs.put_front.Statement.{statement}
 use Rattle.filter.proofs.put_front.Tie as tie
 
-enum-told : tie.Need-enum-told
-enum-told c = search needs
-
 put-header-requires : tie.Need-put-header-requires
 put-header-requires c κs =
     let s = c .before .before .before .before .before in
@@ -41,7 +38,7 @@ pub put-front-spec : {M : Type 1} → statement M
 put-front-spec =
     tie.close
     (tie.spec
-    enum-told
+    (λ c. search needs)
     (λ c κs. search needs)
     (λ c. search needs)
     put-header-requires

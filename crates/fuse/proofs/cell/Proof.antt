@@ -6,7 +6,7 @@ use native.Mathlib.Omega.{arith}
 use borrow.Author.Needs.{needs}
 use Rattle.laws.proofs.PowerLaws.{power-pos}
 use Rattle.fuse.specs.Positions.{firstCell}
-use Rattle.fuse.proofs.PositionLaws.{room, cell-first, cell-other}
+use Rattle.fuse.proofs.PositionLaws.{sums-fit, cell-first, cell-other}
 use Rattle.fuse.proofs.cell.Statement.{statement}
 use Rattle.fuse.proofs.cell.Tie as tie
 
@@ -20,7 +20,7 @@ fits c =
     let s = c .before in
     let a = s .args in
     subst (λ (x : ℕ). x + a .i * a .segment < 2 ^ 32) (sym (first c))
-    (room (a .segment) (a .count) (a .h) (a .i) (s .pre .0) (s .fits .h .fits) (s .pre .1))
+    (sums-fit (a .segment) (a .count) (a .h) (a .i) (s .pre .0) (s .fits .h .fits) (s .pre .1))
 
 returns : tie.Need-returns
 returns c =

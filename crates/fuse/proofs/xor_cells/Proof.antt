@@ -23,12 +23,6 @@ loop-holds c =
     let a = c .before .args in
     (omega arith, xor-start (a .cells .now) (a .segment) (a .count) (a .h))
 
-sub-i : tie.Need-sub-i Inv-loop μ-loop
-sub-i c = search needs
-
-cell-requires : tie.Need-cell-requires Inv-loop μ-loop
-cell-requires c κs = search needs
-
 shared-slice-read-x : tie.Need-shared-slice-read-x Inv-loop μ-loop
 shared-slice-read-x c =
     let s = c .before .before .before .before .before in
@@ -39,9 +33,6 @@ shared-slice-read-x c =
       cell-below (a .segment) (a .count) (s .pre .0) (a .h) (s .fits .h .fits) (l .i - 1) (omega arith),
       c .before .cell .ensures,
     )
-
-loop-less : tie.Need-loop-less Inv-loop μ-loop
-loop-less c = search needs
 
 loop-again : tie.Need-loop-again Inv-loop μ-loop
 loop-again c =
@@ -66,9 +57,9 @@ xor-cells-spec =
     Inv-loop
     μ-loop
     loop-holds
-    sub-i
-    cell-requires
+    (λ c. search needs)
+    (λ c κs. search needs)
     shared-slice-read-x
-    loop-less
+    (λ c. search needs)
     loop-again
     returns)

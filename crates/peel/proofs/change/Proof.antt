@@ -4,7 +4,7 @@ use native.Mathlib.Omega.{arith}
 use borrow.Author.Needs.{needs}
 use lib.Bits.{bitXor}
 use lib.ListN.{length}
-use Rattle.peel.specs.Table.{plus}
+use Rattle.peel.specs.Inner.Table.{plus}
 use Rattle.peel.proofs.TableLaws.{Changing, changing-start, changing-in, changing-turn, changing-end}
 use Rattle.peel.proofs.change.Statement.{statement}
 use Rattle.peel.proofs.change.Tie as tie
@@ -18,12 +18,6 @@ abbrev μ-loop : tie.MeasureT-loop
 loop-holds : tie.Need-loop-holds Inv-loop μ-loop
 loop-holds c = (changing-start _ _ _, changing-start _ _ _)
 
-mul-p : tie.Need-mul-p Inv-loop μ-loop
-mul-p c = search needs
-
-shared-slice-read-p : tie.Need-shared-slice-read-p Inv-loop μ-loop
-shared-slice-read-p c = search needs
-
 mul-wrapping-add-u32 : tie.Need-mul-wrapping-add-u32 Inv-loop μ-loop
 mul-wrapping-add-u32 c =
     let l = c .before .before .loop in
@@ -35,9 +29,6 @@ slice-read-wrapping-add-u32 c =
     let l = c .before .before .before .loop in
     let g = c .before .before .before .before .before .before .before in
     changing-in _ (g .args .cells .now) _ (l .i) (l .narrow) (omega arith) (g .pre .0) (l .inv .0)
-
-wrapping-add-u32-requires : tie.Need-wrapping-add-u32-requires Inv-loop μ-loop
-wrapping-add-u32-requires c κs = search needs
 
 mul-narrow : tie.Need-mul-narrow Inv-loop μ-loop
 mul-narrow c =
@@ -75,12 +66,6 @@ slice-write-wide c =
     let g = c .before .before .before .before .before .before .before .before .before in
     changing-in _ (g .args .cells .now) _ (l .i) (l .wide) (omega arith) (g .pre .1) (l .inv .1)
 
-add-i : tie.Need-add-i Inv-loop μ-loop
-add-i c = search needs
-
-loop-less : tie.Need-loop-less Inv-loop μ-loop
-loop-less c = search needs
-
 loop-again : tie.Need-loop-again Inv-loop μ-loop
 loop-again c =
     let l = c .before .before .before .before .before .loop in
@@ -89,12 +74,6 @@ loop-again c =
       rw (c .before .wrapping-add-u32 .ensures) (changing-turn _ ps _ (l .i) (l .narrow) (omega arith) (l .inv .0)),
       changing-turn _ ps _ (l .i) (l .wide) (omega arith) (l .inv .1),
     )
-
-same-length : tie.Need-same-length Inv-loop μ-loop
-same-length c = search needs
-
-same-length-2 : tie.Need-same-length-2 Inv-loop μ-loop
-same-length-2 c = search needs
 
 returns : tie.Need-returns Inv-loop μ-loop
 returns c =
@@ -108,20 +87,20 @@ change-spec =
     Inv-loop
     μ-loop
     loop-holds
-    mul-p
-    shared-slice-read-p
+    (λ c. search needs)
+    (λ c. search needs)
     mul-wrapping-add-u32
     slice-read-wrapping-add-u32
-    wrapping-add-u32-requires
+    (λ c κs. search needs)
     mul-narrow
     slice-write-narrow
     mul-wide
     slice-read-wide
     mul-wide-2
     slice-write-wide
-    add-i
-    loop-less
+    (λ c. search needs)
+    (λ c. search needs)
     loop-again
-    same-length
-    same-length-2
+    (λ c. search needs)
+    (λ c. search needs)
     returns)

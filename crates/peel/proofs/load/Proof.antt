@@ -10,7 +10,7 @@ use Rattle.peel.proofs.TableLaws.{tables-load}
 use Rattle.fuse.specs.Asking.{graphHash}
 use Rattle.fuse.specs.Positions.{positionsOf}
 use Rattle.peel.specs.Peel.{mixed}
-use Rattle.peel.specs.Table.{Tables}
+use Rattle.peel.specs.Inner.Table.{Tables}
 use Rattle.peel.proofs.PlaceLaws.{graph-placed}
 use Rattle.peel.proofs.load.Statement.{statement}
 use Rattle.peel.proofs.load.Tie as tie
@@ -30,23 +30,8 @@ loop-holds c =
     let e : drop (length (a .hashes .now)) hs ≡ [] = drop-of-length-le hs {i = length (a .hashes .now)} (omega (arith, length-map (a .hashes .now) (graphHash (a .g .seed)))) in
     (omega arith, refl, refl, rw e (c .before .before .before .pre .2))
 
-sub-i : tie.Need-sub-i Inv-loop μ-loop
-sub-i c = search needs
-
-mul-graph-hash : tie.Need-mul-graph-hash Inv-loop μ-loop
-mul-graph-hash c = search needs
-
-shared-slice-read-graph-hash : tie.Need-shared-slice-read-graph-hash Inv-loop μ-loop
-shared-slice-read-graph-hash c = search needs
-
-graph-hash-requires : tie.Need-graph-hash-requires Inv-loop μ-loop
-graph-hash-requires c κs = search needs
-
 positions-requires : tie.Need-positions-requires Inv-loop μ-loop
 positions-requires c κs = c .before .before .before .before .before .before .before .pre .0 .usable
-
-slice-aggregate-change : tie.Need-slice-aggregate-change Inv-loop μ-loop
-slice-aggregate-change c = search needs
 
 change-requires : tie.Need-change-requires Inv-loop μ-loop
 change-requires c κs =
@@ -56,9 +41,6 @@ change-requires c κs =
     let ps = c .before .before .before .positions .ensures in
     let k = graph-placed (a .g) (s .pre .0) _ _ _ (c .before .before .before .before .graph-hash .ensures) in
     rw ps ((λ v z. k .below v (omega (arith, l .inv .3 .degrees))), λ v z. k .below v (omega (arith, l .inv .3 .mixes)))
-
-loop-less : tie.Need-loop-less Inv-loop μ-loop
-loop-less c = search needs
 
 loop-again : tie.Need-loop-again Inv-loop μ-loop
 loop-again c =
@@ -74,12 +56,6 @@ loop-again c =
           (c .before .before .before .before .before .before .before .before .positions .ensures) (graph-placed (a .g) (s .pre .0) _ _ _ k) (omega arith) (l .inv .3) (c .before .before .before .before .change .ensures .0) (c .before .before .before .before .change .ensures .1),
     )
 
-same-length : tie.Need-same-length Inv-loop μ-loop
-same-length c = search needs
-
-same-length-2 : tie.Need-same-length-2 Inv-loop μ-loop
-same-length-2 c = search needs
-
 returns : tie.Need-returns Inv-loop μ-loop
 returns c =
     let l = c .before .loop in
@@ -93,15 +69,15 @@ load-spec =
     Inv-loop
     μ-loop
     loop-holds
-    sub-i
-    mul-graph-hash
-    shared-slice-read-graph-hash
-    graph-hash-requires
+    (λ c. search needs)
+    (λ c. search needs)
+    (λ c. search needs)
+    (λ c κs. search needs)
     positions-requires
-    slice-aggregate-change
+    (λ c. search needs)
     change-requires
-    loop-less
+    (λ c. search needs)
     loop-again
-    same-length
-    same-length-2
+    (λ c. search needs)
+    (λ c. search needs)
     returns)

@@ -7,7 +7,7 @@ use borrow.Author.Needs.{needs}
 use lib.ListN.{length}
 use Rattle.fuse.specs.Positions.{positionsOf}
 use Rattle.peel.specs.Peel.{run, begun}
-use Rattle.peel.specs.Table.{StandsFor}
+use Rattle.peel.specs.Inner.Table.{StandsFor}
 use Rattle.peel.proofs.StepLaws.{run-step, run-none, attempt-is}
 use Rattle.peel.proofs.peel_all.Statement.{statement}
 use Rattle.peel.proofs.peel_all.Tie as tie
@@ -30,22 +30,10 @@ step-requires c κs =
     let l = c .before .before .before .before .loop in
     (g .pre .0, (g .pre .1 .0, _, l .inv .3 (g .pre .1 .0) (g .pre .1 .1)))
 
-add-turn : tie.Need-add-turn Inv-loop μ-loop
-add-turn c = search needs
-
-loop-less : tie.Need-loop-less Inv-loop μ-loop
-loop-less c = search needs
-
 loop-again : tie.Need-loop-again Inv-loop μ-loop
 loop-again c =
     let l = c .before .before .before .before .before .before .before .before .before .loop in
     (omega arith, search needs, search needs, λ hs R. rw run-step (c .before .before .before .before .step .ensures hs _ (l .inv .3 hs R)))
-
-same-length : tie.Need-same-length Inv-loop μ-loop
-same-length c = search needs
-
-same-length-2 : tie.Need-same-length-2 Inv-loop μ-loop
-same-length-2 c = search needs
 
 returns : tie.Need-returns Inv-loop μ-loop
 returns c =
@@ -62,9 +50,9 @@ peel-all-spec =
     μ-loop
     loop-holds
     step-requires
-    add-turn
-    loop-less
+    (λ c. search needs)
+    (λ c. search needs)
     loop-again
-    same-length
-    same-length-2
+    (λ c. search needs)
+    (λ c. search needs)
     returns)

@@ -7,7 +7,7 @@ use lib.Seq.{length-take-le}
 use Rattle.fuse.specs.Asking.{graphHash}
 use Rattle.fuse.specs.Positions.{positionsOf}
 use Rattle.peel.specs.Peel.{begun, mixed}
-use Rattle.peel.specs.Table.{StandsFor}
+use Rattle.peel.specs.Inner.Table.{StandsFor}
 use Rattle.peel.proofs.PlaceLaws.{whole-small, whole-placed}
 use Rattle.peel.proofs.TableLaws.{tables-none, cleared}
 use Rattle.peel.proofs.StepLaws.{ready-start}

@@ -5,8 +5,8 @@ use native.Mathlib.Omega.{arith}
 use borrow.Author.Needs.{needs}
 use lib.ListN.{length, getD, drop, drop-of-length-le}
 use Rattle.laws.proofs.Lists.{drop-next}
-use Rattle.peel.proofs.TableLaws.{cell-below, Noting, noting-start, noting-turn, noting-room, noting-end}
-use Rattle.peel.specs.Table.{queuedBy, stack}
+use Rattle.peel.proofs.TableLaws.{cell-at-below, Noting, noting-start, noting-turn, noting-room, noting-end}
+use Rattle.peel.specs.Inner.Table.{queuedBy, stack}
 use Rattle.peel.proofs.queue_cells.Statement.{statement}
 use Rattle.peel.proofs.queue_cells.Tie as tie
 
@@ -19,30 +19,18 @@ abbrev μ-loop : tie.MeasureT-loop
 loop-holds : tie.Need-loop-holds Inv-loop μ-loop
 loop-holds c = (omega arith, noting-start _ _ _ _)
 
-mul-p : tie.Need-mul-p Inv-loop μ-loop
-mul-p c = search needs
-
-shared-slice-read-p : tie.Need-shared-slice-read-p Inv-loop μ-loop
-shared-slice-read-p c = search needs
-
 note-requires : tie.Need-note-requires Inv-loop μ-loop
 note-requires c κs =
     let l = c .before .before .before .loop in
     let g = c .before .before .before .before .before .before in
     let ps : List ℕ = g .args .cells .now in
     let hi : l .i < length ps = omega arith in
-    let h : getD ps (l .i) 0 < g .args .c = cell-below (g .args .c) ps (g .pre .2) (l .i) hi in (
+    let h : getD ps (l .i) 0 < g .args .c = cell-at-below (g .args .c) ps (g .pre .2) (l .i) hi in (
       h,
       g .pre .0,
       omega (arith, l .inv .1 .size),
       noting-room _ _ _ _ (l .t) _ _ _ (drop-next ps (l .i) hi) h (l .inv .1) (g .pre .3),
     )
-
-add-i : tie.Need-add-i Inv-loop μ-loop
-add-i c = search needs
-
-loop-less : tie.Need-loop-less Inv-loop μ-loop
-loop-less c = search needs
 
 loop-again : tie.Need-loop-again Inv-loop μ-loop
 loop-again c =
@@ -50,11 +38,8 @@ loop-again c =
     let g = c .before .before .before .before .before .before .before .before .before in
     let ps : List ℕ = g .args .cells .now in
     let hi : l .i < length ps = omega arith in
-    let h : getD ps (l .i) 0 < g .args .c = cell-below (g .args .c) ps (g .pre .2) (l .i) hi in
+    let h : getD ps (l .i) 0 < g .args .c = cell-at-below (g .args .c) ps (g .pre .2) (l .i) hi in
     (omega arith, noting-turn _ _ _ _ (l .t) _ _ _ (drop-next ps (l .i) hi) h (l .inv .1) _ _ (search needs) (c .before .before .note .ensures))
-
-same-length : tie.Need-same-length Inv-loop μ-loop
-same-length c = search needs
 
 returns : tie.Need-returns Inv-loop μ-loop
 returns c = let l = c .before .loop in noting-end _ _ _ _ _ _ (drop-of-length-le (c .before .before .before .before .args .cells .now) {i = l .i} (omega arith)) (l .inv .1)
@@ -66,11 +51,11 @@ queue-cells-spec =
     Inv-loop
     μ-loop
     loop-holds
-    mul-p
-    shared-slice-read-p
+    (λ c. search needs)
+    (λ c. search needs)
     note-requires
-    add-i
-    loop-less
+    (λ c. search needs)
+    (λ c. search needs)
     loop-again
-    same-length
+    (λ c. search needs)
     returns)

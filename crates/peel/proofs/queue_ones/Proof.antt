@@ -6,7 +6,7 @@ use borrow.Author.Needs.{needs}
 use lib.ListN.{length, length-set}
 use mathlib.Core.Logic.{⊎-elim}
 use Rattle.laws.specs.Count.{rising}
-use Rattle.peel.specs.Table.{queuedBy}
+use Rattle.peel.specs.Inner.Table.{queuedBy}
 use Rattle.peel.proofs.TableLaws.{Noting, noting-ones, noting-turn, noting-end, queued-stays, queued-goes, rising-next, rising-over}
 use Rattle.peel.proofs.queue_ones.Statement.{statement}
 use Rattle.peel.proofs.queue_ones.Tie as tie
@@ -37,15 +37,6 @@ mul-if1 c = omega (arith, c .before .loop .inv .2 .size)
 
 slice-read-if1 : tie.Need-slice-read-if1 Inv-loop μ-loop
 slice-read-if1 c = simp length-set (omega (arith, c .before .before .loop .inv .2 .size))
-
-add-top : tie.Need-add-top Inv-loop μ-loop
-add-top c = search needs
-
-add-p : tie.Need-add-p Inv-loop μ-loop
-add-p c = search needs
-
-loop-less : tie.Need-loop-less Inv-loop μ-loop
-loop-less c = search needs
 
 loop-again : tie.Need-loop-again Inv-loop μ-loop
 loop-again c =
@@ -80,9 +71,9 @@ queue-ones-spec =
     slice-write-narrow
     mul-if1
     slice-read-if1
-    add-top
-    add-p
-    loop-less
+    (λ c. search needs)
+    (λ c. search needs)
+    (λ c. search needs)
     loop-again
     same-length
     returns)

@@ -7,7 +7,7 @@ use borrow.Author.Needs.{needs}
 use lib.ListN.{length, getD, length-set}
 use Rattle.fuse.specs.Positions.{positionsOf}
 use Rattle.peel.specs.Peel.{Attempt}
-use Rattle.peel.specs.Table.{StandsFor}
+use Rattle.peel.specs.Inner.Table.{StandsFor}
 use Rattle.peel.proofs.PlaceLaws.{whole-small}
 use Rattle.peel.proofs.StepLaws.{top-le, ready-empty, cell-under, ready-skip, room-peel, cells-under, narrow-length, wide-length, room-queue, ready-peel, ready-suc}
 use Rattle.peel.proofs.step.Statement.{statement}

@@ -18,27 +18,6 @@ abbrev μ-loop : tie.MeasureT-loop
 loop-holds : tie.Need-loop-holds Inv-loop μ-loop
 loop-holds c = omega (arith, upTo-length (c .before .args .table .now) (c .before .args .n))
 
-sub-mid : tie.Need-sub-mid Inv-loop μ-loop
-sub-mid c = omega arith
-
-add-mid : tie.Need-add-mid Inv-loop μ-loop
-add-mid c = omega arith
-
-mul-wide : tie.Need-mul-wide Inv-loop μ-loop
-mul-wide c = omega arith
-
-shared-slice-read-wide : tie.Need-shared-slice-read-wide Inv-loop μ-loop
-shared-slice-read-wide c = omega arith
-
-wide-requires : tie.Need-wide-requires Inv-loop μ-loop
-wide-requires c κs = search needs
-
-add-low : tie.Need-add-low Inv-loop μ-loop
-add-low c = omega arith
-
-loop-less : tie.Need-loop-less Inv-loop μ-loop
-loop-less c = omega arith
-
 loop-again : tie.Need-loop-again Inv-loop μ-loop
 loop-again c =
     let s = c .before .before .before .before .before .before in
@@ -49,9 +28,6 @@ loop-again c =
       upTo-front (a .table .now) (s .pre) (a .n) (l .low + (l .high - l .low) / 2) (omega arith) (omega (arith, c .before .wide .ensures)),
     )
 
-loop-less-2 : tie.Need-loop-less-2 Inv-loop μ-loop
-loop-less-2 c = omega arith
-
 loop-again-2 : tie.Need-loop-again-2 Inv-loop μ-loop
 loop-again-2 c =
     let a = c .before .before .before .before .before .before .args in
@@ -61,9 +37,6 @@ loop-again-2 c =
       upTo-back (a .table .now) (a .n) (l .low + (l .high - l .low) / 2) (omega arith) (omega (arith, c .before .wide .ensures)),
     )
 
-returns : tie.Need-returns Inv-loop μ-loop
-returns c = omega arith
-
 pub up-to-spec : {M : Type 1} → statement M
 up-to-spec =
     tie.close
@@ -71,14 +44,14 @@ up-to-spec =
     Inv-loop
     μ-loop
     loop-holds
-    sub-mid
-    add-mid
-    mul-wide
-    shared-slice-read-wide
-    wide-requires
-    add-low
-    loop-less
+    (λ c. omega arith)
+    (λ c. omega arith)
+    (λ c. omega arith)
+    (λ c. omega arith)
+    (λ c κs. search needs)
+    (λ c. omega arith)
+    (λ c. omega arith)
     loop-again
-    loop-less-2
+    (λ c. omega arith)
     loop-again-2
-    returns)
+    (λ c. omega arith))

@@ -19,32 +19,11 @@ abbrev μ-loop : tie.MeasureT-loop
 loop-holds : tie.Need-loop-holds Inv-loop μ-loop
 loop-holds c = (refl, search needs, append-nil _)
 
-add-bytes : tie.Need-add-bytes Inv-loop μ-loop
-add-bytes c = search needs
-
-cast-bytes : tie.Need-cast-bytes Inv-loop μ-loop
-cast-bytes c = search needs
-
-array-write-bytes : tie.Need-array-write-bytes Inv-loop μ-loop
-array-write-bytes c = search needs
-
 sub-from : tie.Need-sub-from Inv-loop μ-loop
 sub-from c = let l = c .before .loop in digits-room _ (l .rest) (l .from) (l .bytes) (l .inv .0) (l .inv .1) (l .inv .2) (omega arith) (c .loop-test .taken)
 
-loop-less : tie.Need-loop-less Inv-loop μ-loop
-loop-less c = search needs
-
 loop-again : tie.Need-loop-again Inv-loop μ-loop
 loop-again c = let l = c .before .loop in let f = digits-room _ (l .rest) (l .from) (l .bytes) (l .inv .0) (l .inv .1) (l .inv .2) (omega arith) (omega arith) in (length-set (l .bytes) (l .from) _ ∙ l .inv .0, omega arith, digits-on _ (l .rest) (l .from) (l .bytes) (l .inv .0) (l .inv .1) (l .inv .2) (omega arith) f)
-
-add-bytes-2 : tie.Need-add-bytes-2 Inv-loop μ-loop
-add-bytes-2 c = search needs
-
-cast-bytes-2 : tie.Need-cast-bytes-2 Inv-loop μ-loop
-cast-bytes-2 c = search needs
-
-array-write-bytes-2 : tie.Need-array-write-bytes-2 Inv-loop μ-loop
-array-write-bytes-2 c = search needs
 
 returns : tie.Need-returns Inv-loop μ-loop
 returns c = let l = c .before .loop in digits-end _ (l .rest) (l .from) (l .bytes) (l .inv .0) (l .inv .1) (l .inv .2) (omega arith)
@@ -56,13 +35,13 @@ digits-of-spec =
     Inv-loop
     μ-loop
     loop-holds
-    add-bytes
-    cast-bytes
-    array-write-bytes
+    (λ c. search needs)
+    (λ c. search needs)
+    (λ c. search needs)
     sub-from
-    loop-less
+    (λ c. search needs)
     loop-again
-    add-bytes-2
-    cast-bytes-2
-    array-write-bytes-2
+    (λ c. search needs)
+    (λ c. search needs)
+    (λ c. search needs)
     returns)

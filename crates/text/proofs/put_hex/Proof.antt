@@ -20,32 +20,14 @@ abbrev μ-loop : tie.MeasureT-loop
 loop-holds : tie.Need-loop-holds Inv-loop μ-loop
 loop-holds c = (search needs, search needs, refl, refl)
 
-shared-slice-read-b : tie.Need-shared-slice-read-b Inv-loop μ-loop
-shared-slice-read-b c = search needs
-
 hex-digit-requires : tie.Need-hex-digit-requires Inv-loop μ-loop
 hex-digit-requires c κs = let b = c .before .shared-slice-known2 .given (c .before .before .before .loop .i) .fits in omega arith
-
-store-requires : tie.Need-store-requires Inv-loop μ-loop
-store-requires c κs = search needs
 
 add-store : tie.Need-add-store Inv-loop μ-loop
 add-store c = omega (arith, hex-length (c .before .before .before .before .before .before .before .before .before .before .before .args .bytes .now), c .before .before .before .before .before .before .before .before .loop .inv .1, c .before .before .before .before .before .before .before .before .before .before .before .pre .inside, c .before .before .before .before .before .before .before .loop-test)
 
-hex-digit-requires-2 : tie.Need-hex-digit-requires-2 Inv-loop μ-loop
-hex-digit-requires-2 c κs = omega arith
-
-store-requires-2 : tie.Need-store-requires-2 Inv-loop μ-loop
-store-requires-2 c κs = search needs
-
 add-p : tie.Need-add-p Inv-loop μ-loop
 add-p c = omega (arith, hex-length (c .before .before .before .before .before .before .before .before .before .before .before .before .before .before .before .args .bytes .now), c .before .before .before .before .before .before .before .before .before .before .before .before .loop .inv .1, c .before .before .before .before .before .before .before .before .before .before .before .before .before .before .before .pre .inside, c .before .before .before .before .before .before .before .before .before .before .before .loop-test)
-
-add-i : tie.Need-add-i Inv-loop μ-loop
-add-i c = search needs
-
-loop-less : tie.Need-loop-less Inv-loop μ-loop
-loop-less c = search needs
 
 loop-again : tie.Need-loop-again Inv-loop μ-loop
 loop-again c =
@@ -77,15 +59,15 @@ put-hex-spec =
     Inv-loop
     μ-loop
     loop-holds
-    shared-slice-read-b
+    (λ c. search needs)
     hex-digit-requires
-    store-requires
+    (λ c κs. search needs)
     add-store
-    hex-digit-requires-2
-    store-requires-2
+    (λ c κs. omega arith)
+    (λ c κs. search needs)
     add-p
-    add-i
-    loop-less
+    (λ c. search needs)
+    (λ c. search needs)
     loop-again
     same-length
     returns)

@@ -19,21 +19,6 @@ abbrev μ-loop : tie.MeasureT-loop
 loop-holds : tie.Need-loop-holds Inv-loop μ-loop
 loop-holds c = (search needs, rw add-zero, refl)
 
-add-store : tie.Need-add-store Inv-loop μ-loop
-add-store c = search needs
-
-shared-slice-read-store : tie.Need-shared-slice-read-store Inv-loop μ-loop
-shared-slice-read-store c = search needs
-
-store-requires : tie.Need-store-requires Inv-loop μ-loop
-store-requires c κs = search needs
-
-add-i : tie.Need-add-i Inv-loop μ-loop
-add-i c = search needs
-
-loop-less : tie.Need-loop-less Inv-loop μ-loop
-loop-less c = search needs
-
 loop-again : tie.Need-loop-again Inv-loop μ-loop
 loop-again c =
     let l = c .before .before .before .before .before .before .loop in
@@ -42,9 +27,6 @@ loop-again c =
       rw (c .before .before .store .ensures) (word-step (l .out) (s .at) (l .i) (s .word .now) (omega arith) ∙ l .inv .1),
       c .before .before .store .kept .0 ∙ l .inv .2,
     )
-
-add-result : tie.Need-add-result Inv-loop μ-loop
-add-result c = search needs
 
 same-length : tie.Need-same-length Inv-loop μ-loop
 same-length c = c .before .loop .inv .2
@@ -65,12 +47,12 @@ put-word-spec =
     Inv-loop
     μ-loop
     loop-holds
-    add-store
-    shared-slice-read-store
-    store-requires
-    add-i
-    loop-less
+    (λ c. search needs)
+    (λ c. search needs)
+    (λ c κs. search needs)
+    (λ c. search needs)
+    (λ c. search needs)
     loop-again
-    add-result
+    (λ c. search needs)
     same-length
     returns)

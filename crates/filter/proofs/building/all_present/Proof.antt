@@ -16,15 +16,6 @@ Inv-loop hashes cells s i₀ i =
 abbrev μ-loop : tie.MeasureT-loop
 μ-loop hashes cells s i₀ i = length hashes - i
 
-loop-holds : tie.Need-loop-holds Inv-loop μ-loop
-loop-holds c = search needs
-
-mul-contains : tie.Need-mul-contains Inv-loop μ-loop
-mul-contains c = search needs
-
-shared-slice-read-contains : tie.Need-shared-slice-read-contains Inv-loop μ-loop
-shared-slice-read-contains c = search needs
-
 contains-requires : tie.Need-contains-requires Inv-loop μ-loop
 contains-requires c κs = c .before .before .before .before .before .pre
 
@@ -35,15 +26,6 @@ returns c =
     let i : ℕ = c .before .before .before .before .loop .i in
     record { hash = getD (a .hashes .now) i 0; given = occurs-at (a .hashes .now) i (c .before .before .before .loop-test .taken); absent = sym (c .before .contains .ensures) ∙ not-true (c .before .contains .result) (c .if1 .taken) }
 
-add-i : tie.Need-add-i Inv-loop μ-loop
-add-i c = search needs
-
-loop-less : tie.Need-loop-less Inv-loop μ-loop
-loop-less c = search needs
-
-loop-again : tie.Need-loop-again Inv-loop μ-loop
-loop-again c = search needs
-
 returns-2 : tie.Need-returns-2 Inv-loop μ-loop
 returns-2 c = λ e. let z : _≡_ {A = ℕ} 0 1 = cc in absurd (omega arith)
 
@@ -53,12 +35,12 @@ all-present-spec =
     (tie.spec
     Inv-loop
     μ-loop
-    loop-holds
-    mul-contains
-    shared-slice-read-contains
+    (λ c. search needs)
+    (λ c. search needs)
+    (λ c. search needs)
     contains-requires
     returns
-    add-i
-    loop-less
-    loop-again
+    (λ c. search needs)
+    (λ c. search needs)
+    (λ c. search needs)
     returns-2)

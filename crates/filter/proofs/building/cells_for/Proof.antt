@@ -7,9 +7,6 @@ use borrow.Author.Needs.{needs}
 use Rattle.filter.proofs.building.cells_for.Statement.{statement}
 use Rattle.filter.proofs.building.cells_for.Tie as tie
 
-enum-told : tie.Need-enum-told
-enum-told c = search needs
-
 cells-requires : tie.Need-cells-requires
 cells-requires c κs =
     let p = c .before .plan .given in
@@ -29,7 +26,7 @@ cells-for-spec =
     tie.close
     (tie.spec
     (λ c κs. search needs)
-    enum-told
+    (λ c. search needs)
     (λ c. search needs)
     cells-requires
     returns

@@ -8,9 +8,6 @@ use Rattle.filter.proofs.building.lay.Tie as tie
 make-requires : tie.Need-make-requires
 make-requires c κs = c .before .before .before .before .before .before .before .pre
 
-enum-told : tie.Need-enum-told
-enum-told c = search needs
-
 put-positive-requires : tie.Need-put-positive-requires
 put-positive-requires c κs = omega (arith, c .before .before .before .before .before .before .before .before .before .before .before .before .before .before .before .before .before .pre .out-room)
 
@@ -46,7 +43,7 @@ lay-spec =
     tie.close
     (tie.spec
     make-requires
-    enum-told
+    (λ c. search needs)
     put-positive-requires
     (λ c. search needs)
     put-header-requires

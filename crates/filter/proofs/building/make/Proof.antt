@@ -12,15 +12,6 @@ returns c = let a = c .before .before .before .before .before .before .args in m
 add-end : tie.Need-add-end
 add-end c = omega (arith, c .cells-for .ensures, c .before .before .before .before .before .before .before .pre .out-room)
 
-enum-told : tie.Need-enum-told
-enum-told c = search needs
-
-sub-construct : tie.Need-sub-construct
-sub-construct c = omega arith
-
-part-construct-start : tie.Need-part-construct-start
-part-construct-start c = omega arith
-
 part-construct-end : tie.Need-part-construct-end
 part-construct-end c = omega (arith, c .before .before .before .before .before .before .cells-for .ensures, c .before .before .before .before .before .before .before .before .before .before .before .before .before .pre .out-room)
 
@@ -51,10 +42,10 @@ make-spec =
     (λ c κs. search needs)
     add-end
     (λ c κs. search needs)
-    enum-told
     (λ c. search needs)
-    sub-construct
-    part-construct-start
+    (λ c. search needs)
+    (λ c. omega arith)
+    (λ c. omega arith)
     part-construct-end
     construct-requires
     returns-2

@@ -18,35 +18,11 @@ abbrev μ-loop : tie.MeasureT-loop
 loop-holds : tie.Need-loop-holds Inv-loop μ-loop
 loop-holds c = let a = c .before .before .before .before .args in (searching-start (a .s) (a .hashes .now), refl, refl, refl, refl)
 
-add-mix : tie.Need-add-mix Inv-loop μ-loop
-add-mix c = search needs
-
-mix-requires : tie.Need-mix-requires Inv-loop μ-loop
-mix-requires c κs = search needs
-
-cast-t11 : tie.Need-cast-t11 Inv-loop μ-loop
-cast-t11 c = search needs
-
-cast-t12 : tie.Need-cast-t12 Inv-loop μ-loop
-cast-t12 c = search needs
-
 attempt-requires : tie.Need-attempt-requires Inv-loop μ-loop
 attempt-requires c κs =
     let p = c .before .before .before .before .before .before .before .before .before .before .before .before .pre in
     let v = c .before .before .before .before .before .before .before .loop .inv in
     (record { usable = p .fits .usable; whole = v .3 ∙ p .fits .whole }, p .few, omega (arith, p .wide-room), omega (arith, p .narrow-room), refl)
-
-add-result : tie.Need-add-result Inv-loop μ-loop
-add-result c = search needs
-
-same-length : tie.Need-same-length Inv-loop μ-loop
-same-length c = search needs
-
-same-length-2 : tie.Need-same-length-2 Inv-loop μ-loop
-same-length-2 c = search needs
-
-same-length-3 : tie.Need-same-length-3 Inv-loop μ-loop
-same-length-3 c = search needs
 
 returns : tie.Need-returns Inv-loop μ-loop
 returns c =
@@ -55,12 +31,6 @@ returns c =
     tried-hit (s .args .s) (s .args .hashes .now) (l .cells) (c .before .before .before .before .before .before .before .attempt .last .1 .1 .1 .0) (c .before .before .before .before .before .before .before .before .before .before .before .before .before .mix .result) (l .i) (c .before .before .before .before .before .before .before .attempt .result) (c .before .before .before .before .before .before .before .attempt .ensures)
     (c .before .before .before .before .before .before .before .before .before .before .before .before .before .mix .ensures) (l .inv .0) (c .before .before .before .before .before .before .before .before .before .before .before .before .before .before .loop-test .taken) (c .if1 .taken) (s .args .cells .now)
 
-add-i : tie.Need-add-i Inv-loop μ-loop
-add-i c = search needs
-
-loop-less : tie.Need-loop-less Inv-loop μ-loop
-loop-less c = search needs
-
 loop-again : tie.Need-loop-again Inv-loop μ-loop
 loop-again c =
     let s = c .before .before .before .before .before .before .before .before .before .before .before .before .before .before .before .before .before .before .before .before in
@@ -68,15 +38,6 @@ loop-again c =
     let m = tried-miss (s .args .s) (s .args .hashes .now) (l .cells) (c .before .before .before .before .before .before .before .attempt .last .1 .1 .1 .0) (c .before .before .before .before .before .before .before .before .before .before .before .before .before .mix .result) (l .i) (c .before .before .before .before .before .before .before .attempt .result) (c .before .before .before .before .before .before .before .attempt .ensures)
     (c .before .before .before .before .before .before .before .before .before .before .before .before .before .mix .ensures) (l .inv .0) (c .before .before .before .before .before .before .before .before .before .before .before .before .before .before .loop-test .taken) (c .if1 .left) in
     (m .0, search needs, search needs, search needs, m .1 ∙ l .inv .4)
-
-same-length-4 : tie.Need-same-length-4 Inv-loop μ-loop
-same-length-4 c = search needs
-
-same-length-5 : tie.Need-same-length-5 Inv-loop μ-loop
-same-length-5 c = search needs
-
-same-length-6 : tie.Need-same-length-6 Inv-loop μ-loop
-same-length-6 c = search needs
 
 returns-2 : tie.Need-returns-2 Inv-loop μ-loop
 returns-2 c =
@@ -90,20 +51,20 @@ search-spec =
     Inv-loop
     μ-loop
     loop-holds
-    add-mix
-    mix-requires
-    cast-t11
-    cast-t12
+    (λ c. search needs)
+    (λ c κs. search needs)
+    (λ c. search needs)
+    (λ c. search needs)
     attempt-requires
-    add-result
-    same-length
-    same-length-2
-    same-length-3
+    (λ c. search needs)
+    (λ c. search needs)
+    (λ c. search needs)
+    (λ c. search needs)
     returns
-    add-i
-    loop-less
+    (λ c. search needs)
+    (λ c. search needs)
     loop-again
-    same-length-4
-    same-length-5
-    same-length-6
+    (λ c. search needs)
+    (λ c. search needs)
+    (λ c. search needs)
     returns-2)

@@ -4,7 +4,7 @@ use mathlib.Core.Path.{ap, _∙_}
 use mathlib.Core.List.{List}
 use Prim.Native.Nat.{ℕ}
 use Rattle.words.specs.Field.{bytesOf, splice}
-use Rattle.fuse.proofs.HeaderLaws.{header-written}
+use Rattle.fuse.proofs.HeaderLaws.{fuse-header-written}
 use borrow.Author.Needs.{needs}
 use Rattle.fuse.proofs.header.put_header.Statement.{statement}
 use Rattle.fuse.proofs.header.put_header.Tie as tie
@@ -31,7 +31,7 @@ returns c =
     c₃ .put-u643 .ensures ∙ ap (put 16 (bytesOf 8 (s .keys))) (
     c₂ .put-u642 .ensures ∙ ap (put 8 (bytesOf 8 0x0000_0030_0801_0201)) (
     c₁ .put-u64 .ensures)))))))
-    ∙ header-written s n (a .out .now) (c₁ .before .before .cells .ensures) (c₁ .before .before .before .before .pre .0)
+    ∙ fuse-header-written s n (a .out .now) (c₁ .before .before .cells .ensures) (c₁ .before .before .before .before .pre .0)
 
 pub put-header-spec : {M : Type 1} → statement M
 put-header-spec =

@@ -1,15 +1,16 @@
--- How the lent workspace stands for an attempt on n hashes with c cells.
+-- Between the steps: how the lent workspace stands for an attempt on n hashes with c cells, and what the functions ask for.
 -- The u64 part holds [xors c | hashes peeled n], the u32 part [degrees c | queue c | cells peeled n]: queue and peeled grow from the front.
 use mathlib.Core.Path.{_≡_}
-use mathlib.Core.Bool.{Bool, cond}
 use mathlib.Core.List.{List, [], _∷_}
 use Prim.Native.Nat.{ℕ, zero, suc, _+_, _%_, _^_, _<_, _≤_}
 use lib.Dec.{eqb}
 use lib.Bits.{bitXor}
 use lib.ListN.{length, getD, set}
 use Rattle.laws.specs.Count.{keep, occurs}
-use Rattle.peel.specs.Peel.{Peel, Attempt, lying, degree, succeeds, cellsLaid}
-use Rattle.peel.specs.Sound.{Placed, Sound}
+use Rattle.fuse.specs.Positions.{FitsCells}
+use Rattle.peel.specs.declared.Graph.{Graph}
+use Rattle.peel.specs.Peel.{Peel, Attempt, lying, degree}
+use Rattle.peel.specs.Inner.Sound.{Placed, Sound}
 
 -- the xor of a list of hashes
 unfoldable pub xors : List ℕ → ℕ
@@ -22,9 +23,9 @@ stack base zero xs = []
 stack base (suc n) xs = getD xs (base + n) 0 ∷ stack base n xs
 
 -- the n peeled, the last one first: hashes behind the xors, cells behind degrees and queue
-unfoldable pub peels : (c n : ℕ) (wide narrow : List ℕ) → List Peel
-peels c zero wide narrow = []
-peels c (suc n) wide narrow = record { hash = getD wide (c + n) 0; cell = getD narrow (c + c + n) 0 } ∷ peels c n wide narrow
+unfoldable pub peelsIn : (c n : ℕ) (wide narrow : List ℕ) → List Peel
+peelsIn c zero wide narrow = []
+peelsIn c (suc n) wide narrow = record { hash = getD wide (c + n) 0; cell = getD narrow (c + c + n) 0 } ∷ peelsIn c n wide narrow
 
 -- f at each of the cells
 unfoldable pub changed : (ℕ → ℕ) → List ℕ → List ℕ → List ℕ
@@ -59,11 +60,16 @@ pub record StandsFor (pos : ℕ → List ℕ) (c : ℕ) (hs : List ℕ) (s : Att
   pub sound : Sound pos c hs s
   pub tables : Tables pos c (s .left) narrow wide
   pub waiting : s .queue ≡ stack c top narrow
-  pub peeled : s .peeled ≡ peels c n wide narrow
+  pub peeled : s .peeled ≡ peelsIn c n wide narrow
   pub wide-room : c + length hs ≤ length wide
   pub narrow-room : c + c + length hs ≤ length narrow
 
--- an attempt's outcome: whether every hash was peeled; the cells filled if so, and else left as they were
-pub record AttemptPost (segment count seed : ℕ) (hashes before after : List ℕ) (r : Bool) : Type 0 where
-  pub answer : r ≡ succeeds segment count seed hashes
-  pub cells : after ≡ cond (succeeds segment count seed hashes) (cellsLaid segment count seed hashes) before
+-- ---- what the functions ask for
+
+-- the cells ps are below c
+abbrev pub Below : ℕ → List ℕ → Type 0
+Below c ps = (v : ℕ) → c ≤ v → occurs v ps ≡ 0
+
+-- sizes that belong together
+abbrev pub GraphWhole : Graph → Type 0
+GraphWhole g = FitsCells (g .segment) (g .count) (g .cells)

@@ -1,4 +1,4 @@
--- What holds of an attempt at each step.
+-- Between the steps: what holds of an attempt at each of them.
 use mathlib.Core.Path.{_≡_}
 use mathlib.Core.Bool.{true}
 use mathlib.Core.List.{List, [], _∷_, map}
