@@ -5,6 +5,7 @@ use mathlib.Core.List.{List, [], _∷_, _++_, append-assoc}
 use native.Mathlib.Omega.{arith}
 use lib.ListN.{length, take, drop, length-append, take-append-drop}
 use lib.Seq.{length-take-le}
+use Rattle.numbers.specs.Limits.{mostKeys}
 use Rattle.records.specs.declared.Record.{Record}
 use Rattle.records.specs.declared.DataLength.the-variants.{Untested}
 use Rattle.records.specs.Model.{Entry, versionBytes, entryBytes, tableBytes}
@@ -25,7 +26,7 @@ pub record Standing (s : PointBuilder) (buffer : List ℕ) (front : List Entry) 
   pub inside : s .used ≤ length buffer
   pub headed : s .head ≡ length (tableBytes front)
   pub counted : s .keys ≡ length front + 1
-  pub few : s .keys ≤ 65536
+  pub few : s .keys ≤ mostKeys
   pub rules : TableRules Untested (ending front key before last)
 
 module _ (s : PointBuilder) (buffer : List ℕ) (front : List Entry) (key : List ℕ) (before : List Record) (last : Record) (st : Standing s buffer front key before last) where

@@ -7,16 +7,17 @@ use native.Mathlib.Omega.{arith}
 use borrow.Author.Tests.{leb-true, eqb-true, eqb-false, le-leb, eq-eqb, ne-eqb}
 use lib.Dec.{leb, eqb}
 use lib.ListN.{length}
+use Rattle.numbers.specs.Limits.{mostKeyBytes, mostKeys}
 use Rattle.records.specs.Places.{keyLength, versionCount, nextEntry}
 use Rattle.builder.specs.declared.PointBuilder.{PointBuilder}
 use Rattle.builder.specs.State.{fits, fitsAt}
 
 -- a state with a key, beside its buffer
 pub record Fitting (s : PointBuilder) (buffer : List ℕ) : Type 0 where
-  pub few : s .keys ≤ 65536
+  pub few : s .keys ≤ mostKeys
   pub inside : s .used ≤ length buffer
   pub headed : s .head + 8 ≤ s .used
-  pub short : keyLength buffer (s .head) ≤ 1048576
+  pub short : keyLength buffer (s .head) ≤ mostKeyBytes
   pub versioned : 1 ≤ versionCount buffer (s .head)
   pub whole : nextEntry buffer (s .head) ≡ s .used
 
@@ -33,16 +34,16 @@ module _ (s : PointBuilder) (buffer : List ℕ) where
     pub fits-known : fits s buffer ≡ true → Fitting s buffer
     unfolding fitsAt
     fits-known h =
-        let a = and-eq-true-iff (leb (s .keys) 65536) _ .0 (sym fits-some ∙ h) in
+        let a = and-eq-true-iff (leb (s .keys) mostKeys) _ .0 (sym fits-some ∙ h) in
         let b = and-eq-true-iff (leb (s .used) (length buffer)) _ .0 (a .1) in
         let c = and-eq-true-iff (leb (s .head + 8) (s .used)) _ .0 (b .1) in
-        let d = and-eq-true-iff (leb (keyLength buffer (s .head)) 1048576) _ .0 (c .1) in
+        let d = and-eq-true-iff (leb (keyLength buffer (s .head)) mostKeyBytes) _ .0 (c .1) in
         let e = and-eq-true-iff (leb 1 (versionCount buffer (s .head))) _ .0 (d .1) in
         record {
-          few = leb-true (s .keys) 65536 (a .0);
+          few = leb-true (s .keys) mostKeys (a .0);
           inside = leb-true (s .used) (length buffer) (b .0);
           headed = leb-true (s .head + 8) (s .used) (c .0);
-          short = leb-true (keyLength buffer (s .head)) 1048576 (d .0);
+          short = leb-true (keyLength buffer (s .head)) mostKeyBytes (d .0);
           versioned = leb-true 1 (versionCount buffer (s .head)) (e .0);
           whole = eqb-true (nextEntry buffer (s .head)) (s .used) (e .1);
         }
@@ -51,7 +52,7 @@ module _ (s : PointBuilder) (buffer : List ℕ) where
     unfolding fitsAt
     fits-given f =
         fits-some
-        ∙ rw (le-leb (s .keys) 65536 (f .few), le-leb (s .used) (length buffer) (f .inside), le-leb (s .head + 8) (s .used) (f .headed), le-leb (keyLength buffer (s .head)) 1048576 (f .short), le-leb 1 (versionCount buffer (s .head)) (f .versioned), eq-eqb (nextEntry buffer (s .head)) (s .used) (f .whole))
+        ∙ rw (le-leb (s .keys) mostKeys (f .few), le-leb (s .used) (length buffer) (f .inside), le-leb (s .head + 8) (s .used) (f .headed), le-leb (keyLength buffer (s .head)) mostKeyBytes (f .short), le-leb 1 (versionCount buffer (s .head)) (f .versioned), eq-eqb (nextEntry buffer (s .head)) (s .used) (f .whole))
 
     pub fits-not : (Fitting s buffer → ⊥) → false ≡ fits s buffer
     fits-not bad = go (fits s buffer) refl

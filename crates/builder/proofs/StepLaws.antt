@@ -1,7 +1,7 @@
 -- A table stays held: by a new key, by a continued key, by a set offset. Assumes nothing.
 use Prim.Native.Nat.{ℕ, _+_, _-_, _^_, _≤_, _<_}
 use mathlib.Core.Path.{_≡_, refl, sym, ap, _∙_}
-use mathlib.Core.Bool.{true, false}
+use mathlib.Core.Bool.{false}
 use mathlib.Core.List.{List, [], _∷_, _++_}
 use native.Mathlib.Omega.{arith}
 use borrow.Author.Tests.{eqb-true, eq-eqb, not-false}
@@ -10,6 +10,7 @@ use lib.ListN.{length, take, drop, length-append, take-append-drop}
 use lib.Seq.{length-take-le, take-at}
 use Rattle.laws.specs.Each.{Each}
 use Rattle.laws.specs.Each.Each.{each-none, each-more}
+use Rattle.numbers.specs.Limits.{mostKeyBytes, mostKeys, mostVersions}
 use Rattle.words.specs.Field.{bytesOf, splice}
 use Rattle.words.proofs.Laws.{length-bytesOf, length-splice, take-splice-end}
 use Rattle.records.specs.declared.Kind.{Kind}
@@ -22,7 +23,7 @@ use Rattle.records.specs.Rules.{fullTombstone}
 use Rattle.records.specs.Tables.{RecordRules, EntryRules, TableRules}
 use Rattle.records.proofs.WriteLaws.{version-size, entry-size}
 use Rattle.builder.specs.declared.PointBuilder.{PointBuilder}
-use Rattle.builder.specs.Add.{recordOf, newEntry, nextState, appended}
+use Rattle.builder.specs.Add.{Call, Sized, recordOf, newEntry, newState, continuedState, newBuffer, continuedBuffer}
 use Rattle.builder.specs.Taken.{entry, withOffset}
 use Rattle.builder.proofs.ListLaws.{each-last, last-each, falls-on, falls-last, rises-last}
 use Rattle.builder.proofs.BodyLaws.{table-last, body, body-table, body-more, body-length, body-count, version-offset}
@@ -38,25 +39,25 @@ pub valued-empty : (kind : Kind) (size : ℕ) → (kind ≡ Tombstone → size �
 valued-empty Put size e = refl
 valued-empty Tombstone size e = rw (eq-eqb size 0 (e refl))
 
-pub record-rules : (kind : Kind) (size sequence : ℕ) → size ≤ 16777216 → fullTombstone (kindByte kind) size ≡ false → sequence < 2 ^ 64 → RecordRules Untested (recordOf kind size sequence 0)
-record-rules kind size sequence z v q =
+pub record-rules : {s : PointBuilder} {buffer : List ℕ} {call : Call} → Sized s buffer call → call .sequence < 2 ^ 64 → RecordRules Untested (recordOf call)
+record-rules {s} {buffer} {call} k q =
     record {
-      fits = record { sequence-fits = q; length-fits = omega arith; offset-fits = omega arith };
-      small = z;
+      fits = record { sequence-fits = q; length-fits = omega (arith, k .small); offset-fits = omega arith };
+      small = k .small;
       inside = refl;
-      empty = empty-valued kind size v;
+      empty = empty-valued (call .kind) (call .size) (k .valued);
     }
 
 -- ---- a new key
 
 module _ (s : PointBuilder) (buffer key : List ℕ) (table : List Entry) (r : Record) where
-  new-rules : length key ≤ 1048576 → RecordRules Untested r → EntryRules Untested (newEntry key r)
+  new-rules : length key ≤ mostKeyBytes → RecordRules Untested r → EntryRules Untested (newEntry key r)
   new-rules h k = record { small = h; some = omega arith; few = omega arith; falls = falls-one; versions = each-more k each-none }
 
-  pub new-stands : take (s .used) buffer ≡ tableBytes table → s .used + (29 + length key) ≤ length buffer → s .keys ≡ length table → s .keys < 65536
-      → length key ≤ 1048576 → RecordRules Untested r → Each (EntryRules Untested) table → Rises (table ++ (newEntry key r ∷ []))
-      → Standing (nextState s key true) (appended s buffer key r true) table key [] r
-  unfolding appended
+  pub new-stands : take (s .used) buffer ≡ tableBytes table → s .used + (29 + length key) ≤ length buffer → s .keys ≡ length table → s .keys < mostKeys
+      → length key ≤ mostKeyBytes → RecordRules Untested r → Each (EntryRules Untested) table → Rises (table ++ (newEntry key r ∷ []))
+      → Standing (newState s key) (newBuffer s buffer key r) table key [] r
+  unfolding newBuffer
   new-stands b room counted few h k each rising =
       let l : length (entryBytes (newEntry key r)) ≡ 29 + length key = entry-size (newEntry key r) ∙ omega arith in
       let fit : s .used + length (entryBytes (newEntry key r)) ≤ length buffer = rw l room in
@@ -83,7 +84,7 @@ module _ (s : PointBuilder) (buffer : List ℕ) (front : List Entry) (key : List
         rises = rises-last front (entry key (before ++ (last ∷ []))) (entry key vs) refl (st .rules .rises);
       }
 
-  module _ (r : Record) (k : RecordRules Untested r) (older-still : r .sequence < last .sequence) (countable : length (before ++ (last ∷ [])) < 4294967295) where
+  module _ (r : Record) (k : RecordRules Untested r) (older-still : r .sequence < last .sequence) (countable : length (before ++ (last ∷ [])) < mostVersions) where
     more-rules : EntryRules Untested (entry key ((before ++ (last ∷ [])) ++ (r ∷ [])))
     more-rules =
         let e = entry-rules s buffer front key before last st in
@@ -117,9 +118,9 @@ module _ (s : PointBuilder) (buffer : List ℕ) (front : List Entry) (key : List
         ap length (sym raised-is)
         ∙ length-splice buffer (s .head + 4) (bytesOf 4 (versionCount buffer (s .head) + 1)) (rw length-bytesOf (omega (arith, st .inside, st .headed, used-body 0, body-length front key (before ++ (last ∷ [])) 0)))
 
-    pub continued-stands : (asked : List ℕ) → s .used + 21 ≤ length buffer → Standing (nextState s asked false) (appended s buffer asked r false) front key (before ++ (last ∷ [])) r
-    unfolding appended raised
-    continued-stands asked room =
+    pub continued-stands : s .used + 21 ≤ length buffer → Standing (continuedState s) (continuedBuffer s buffer r) front key (before ++ (last ∷ [])) r
+    unfolding continuedBuffer raised
+    continued-stands room =
         let vs = before ++ (last ∷ []) in
         let fit : s .used + length (versionBytes r) ≤ length raised = rw (version-size r, raised-length) room in
         let n : length (vs ++ (r ∷ [])) ≡ length vs + 1 = length-append vs (r ∷ []) in

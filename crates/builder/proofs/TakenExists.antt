@@ -10,6 +10,7 @@ use lib.ListN.{length, length-append}
 use Rattle.laws.specs.Each.{Each}
 use Rattle.laws.specs.Each.Each.{each-none, each-more}
 use Rattle.laws.specs.Refusals.{None, none-here, none-more}
+use Rattle.numbers.specs.Limits.{mostKeyBytes, mostKeys, mostVersions}
 use Rattle.words.specs.declared.part.Order.the-variants.{Less}
 use Rattle.words.specs.Part.{orderOf}
 use Rattle.words.specs.Field.{AllBytes}
@@ -22,10 +23,10 @@ use Rattle.records.proofs.WriteLaws.{entry-size}
 use Rattle.builder.specs.declared.PointBuilder.{PointBuilder}
 use Rattle.builder.specs.declared.Added.the-variants as added
 use Rattle.builder.specs.State.{emptyBuilder, lastOf, fits}
-use Rattle.builder.specs.Add.{risesAfter, recordOf, newEntry, nextState, nextPlace, addOf, bufferAfterAdd}
+use Rattle.builder.specs.Add.{Call, risesAfter, Sized, AddOpened, Continued, recordOf, newEntry, nextState, nextPlace, addOf, bufferAfterAdd}
 use Rattle.builder.specs.SetOffset.{setCauses, bufferAfterSet}
 use Rattle.builder.specs.Taken.{entry, ending, KeyBytes, onLast, withVersion, withOffset, withLastOffset, tableAfterAdd, tableAfterSet, taken-none, taken-added, taken-set, TakenInto}
-use Rattle.builder.proofs.AddLaws.{Sized, AddOpened, Continued, rises-known}
+use Rattle.builder.proofs.AddLaws.{rises-known}
 use Rattle.builder.proofs.ListLaws.{last-changed, falls-end, rises-end, rises-front, rises-last}
 use Rattle.builder.proofs.BodyLaws.{table-last, table-append}
 use Rattle.builder.proofs.HeldLaws.{read-key, keyed}
@@ -52,33 +53,37 @@ none-refuses s buffer f k =
     let p : not (eqb (s .used - 8) (s .used - 8)) ≡ false = rw (eq-eqb (s .used - 8) (s .used - 8) refl) in
     none-more a (none-more (ne-eqb (s .keys) 0 k) (none-more p none-here))
 
+-- the call that adds a record
+abbrev adding : List ℕ → Record → Bool → Call
+adding key r newKey = record { key = key; kind = r .kind; size = r .length; sequence = r .sequence; newKey = newKey }
+
 module _ (buffer : List ℕ) where
   -- ---- a record that add takes, and its offset set
 
-  sized : {table : List Entry} (key : List ℕ) (r : Record) (I : TakenInto buffer table) → length key ≤ 1048576 → RecordRules Untested r
-      → Sized (I .state) (I .after) key (r .kind) (r .length)
-  sized key r I short k = record {
-    fitting = taken-facts (I .taken) .fitting;
-    short = short;
-    small = k .small;
-    valued = valued-empty (r .kind) (r .length) (k .empty);
-  }
+  module _ {table : List Entry} (key : List ℕ) (r : Record) (newKey : Bool) (I : TakenInto buffer table) (k : RecordRules Untested r) where
+    sized : length key ≤ mostKeyBytes → Sized (I .state) (I .after) (adding key r newKey)
+    sized short = record {
+      fitting = taken-facts (I .taken) .fitting;
+      short = short;
+      small = k .small;
+      valued = valued-empty (r .kind) (r .length) (k .empty);
+    }
 
-  added-into : {table : List Entry} (key : List ℕ) (r : Record) (newKey : Bool) (I : TakenInto buffer table) → AllBytes key → RecordRules Untested r
-      → addOf (I .state) (I .after) key (r .kind) (r .length) (r .sequence) newKey
-      ≡ added.Taken (nextState (I .state) key newKey) (nextPlace (I .state) key newKey)
-      → TakenInto buffer (tableAfterAdd table key (recordOf (r .kind) (r .length) (r .sequence) 0) newKey)
-  added-into key r newKey I bytes k e =
-      let s = I .state in
-      let b = I .after in
-      let u = add-untouched s b key (r .kind) (r .length) (r .sequence) newKey e in
-      record {
-        state = nextState s key newKey;
-        after = bufferAfterAdd s b key (r .kind) (r .length) (r .sequence) newKey;
-        taken = taken-added key (r .kind) (r .length) (r .sequence) newKey (I .taken) bytes (k .fits .sequence-fits) e;
-        behind = u .0 ∙ drop-later (s .used) (nextState s key newKey .used) b buffer (omega arith) (I .behind);
-        whole = u .1 ∙ I .whole;
-      }
+    added-into : AllBytes key → I .state .used ≤ nextState (I .state) (adding key r newKey) .used
+        → addOf (I .state) (I .after) (adding key r newKey) ≡ added.Taken (nextState (I .state) (adding key r newKey)) (nextPlace (I .state) (adding key r newKey))
+        → TakenInto buffer (tableAfterAdd table (adding key r newKey))
+    added-into bytes grows e =
+        let s = I .state in
+        let b = I .after in
+        let call = adding key r newKey in
+        let u = add-untouched s b call e in
+        record {
+          state = nextState s call;
+          after = bufferAfterAdd s b call;
+          taken = taken-added call (I .taken) bytes (k .fits .sequence-fits) e;
+          behind = u .0 ∙ drop-later (s .used) (nextState s call .used) b buffer grows (I .behind);
+          whole = u .1 ∙ I .whole;
+        }
 
   offset-into : {table : List Entry} (offset : ℕ) → offset < 2 ^ 64 → 0 < length table → TakenInto buffer table
       → TakenInto buffer (tableAfterSet table offset)
@@ -99,8 +104,8 @@ module _ (buffer : List ℕ) where
 
   -- ---- a record more
 
-  module _ (front : List Entry) (key : List ℕ) (bytes : AllBytes key) (short : length key ≤ 1048576) where
-    new-more : (r : Record) → TakenInto buffer front → RecordRules Untested r → length front < 65536 → Rises (front ++ (entry key (r ∷ []) ∷ []))
+  module _ (front : List Entry) (key : List ℕ) (bytes : AllBytes key) (short : length key ≤ mostKeyBytes) where
+    new-more : (r : Record) → TakenInto buffer front → RecordRules Untested r → length front < mostKeys → Rises (front ++ (entry key (r ∷ []) ∷ []))
         → length (tableBytes front) + (29 + length key) ≤ length buffer → TakenInto buffer (front ++ (entry key (r ∷ []) ∷ []))
     unfolding tableAfterAdd tableAfterSet onLast
     new-more r I k few rising fit =
@@ -109,16 +114,16 @@ module _ (buffer : List ℕ) where
         let c : s .keys ≡ length front = taken-facts (I .taken) .counted in
         let u : s .used ≡ length (tableBytes front) = ap (λ (x : PointBuilder). x .used) (taken-state (I .taken)) in
         let w : length b ≡ length buffer = I .whole in
-        let o : AddOpened s b key =
-        record { rising = rising-of s b front (entry key (r ∷ [])) (taken-held (I .taken)) rising; few = omega arith; room = omega arith } in
-        let a = newEntry key (recordOf (r .kind) (r .length) (r .sequence) 0) in
+        let o : AddOpened s b (adding key r true) =
+        record { newly = refl; rising = rising-of s b front (entry key (r ∷ [])) (taken-held (I .taken)) rising; few = omega arith; room = omega arith } in
+        let a = newEntry key (recordOf (adding key r true)) in
         let n : length (front ++ (a ∷ [])) ≡ length front + 1 = length-append front (a ∷ []) in
         let I' : TakenInto buffer (front ++ (a ∷ [])) =
-        added-into key r true I bytes k (new-taken s b key (r .kind) (r .length) (r .sequence) (sized key r I short k) o) in
+        added-into key r true I k bytes (omega arith) (new-taken s b (adding key r true) (sized key r true I k short) o) in
         subst (TakenInto buffer) (last-changed (withLastOffset (r .offset)) front a) (offset-into (r .offset) (k .fits .offset-fits) (omega arith) I')
 
     continued-more : (before : List Record) (last r : Record) → TakenInto buffer (ending front key before last) → RecordRules Untested r
-        → r .sequence < last .sequence → length (before ++ (last ∷ [])) < 4294967295 → length (tableBytes (ending front key before last)) + 21 ≤ length buffer
+        → r .sequence < last .sequence → length (before ++ (last ∷ [])) < mostVersions → length (tableBytes (ending front key before last)) + 21 ≤ length buffer
         → TakenInto buffer (ending front key (before ++ (last ∷ [])) r)
     unfolding tableAfterAdd tableAfterSet
     continued-more before last r I k below countable fit =
@@ -127,14 +132,14 @@ module _ (buffer : List ℕ) where
         let u : s .used ≡ length (tableBytes (ending front key before last)) = ap (λ (x : PointBuilder). x .used) (taken-state (I .taken)) in
         let w : length b ≡ length buffer = I .whole in
         let l = taken-last front key before last (I .taken) in
-        let o : Continued s b key (r .sequence) =
-        record { keyed = l .0; same = rw (l .1) (same-self key); older = rw (l .1) below; countable = rw (l .1) countable; room = omega arith } in
+        let o : Continued s b (adding key r false) =
+        record { further = refl; keyed = l .0; same = rw (l .1) (same-self key); older = rw (l .1) below; countable = rw (l .1) countable; room = omega arith } in
         let vs = before ++ (last ∷ []) in
-        let v = recordOf (r .kind) (r .length) (r .sequence) 0 in
+        let v = recordOf (adding key r false) in
         let n : length (front ++ (entry key (vs ++ (v ∷ [])) ∷ [])) ≡ length front + 1 = length-append front (entry key (vs ++ (v ∷ [])) ∷ []) in
         let I' : TakenInto buffer (front ++ (entry key (vs ++ (v ∷ [])) ∷ [])) =
         subst (TakenInto buffer) (last-changed (withVersion v) front (entry key vs))
-        (added-into key r false I bytes k (continued-taken s b key (r .kind) (r .length) (r .sequence) (sized key r I short k) o)) in
+        (added-into key r false I k bytes (omega arith) (continued-taken s b (adding key r false) (sized key r false I k short) o)) in
         subst (λ (rs : List Record). TakenInto buffer (front ++ (entry key rs ∷ []))) (last-changed (withOffset (r .offset)) vs v)
         (subst (TakenInto buffer) (last-changed (withLastOffset (r .offset)) front (entry key (vs ++ (v ∷ []))))
         (offset-into (r .offset) (k .fits .offset-fits) (omega arith) I'))
@@ -158,7 +163,7 @@ module _ (buffer : List ℕ) where
 
   -- ---- an entry more, and a whole list
 
-  entry-more : (front : List Entry) (e : Entry) → TakenInto buffer front → KeyBytes e → EntryRules Untested e → length front < 65536
+  entry-more : (front : List Entry) (e : Entry) → TakenInto buffer front → KeyBytes e → EntryRules Untested e → length front < mostKeys
       → Rises (front ++ (e ∷ [])) → length (tableBytes front) + length (entryBytes e) ≤ length buffer → TakenInto buffer (front ++ (e ∷ []))
   entry-more front e I bytes k few rising fit = go (e .versions) refl (k .versions)
     where
@@ -173,7 +178,7 @@ module _ (buffer : List ℕ) where
           (subst Falls q (k .falls)) ps (subst (λ (m : ℕ). m < 256 ^ 4) n (k .few)) (omega arith))
 
   list-more : (es front : List Entry) → TakenInto buffer front → Each KeyBytes es → Each (EntryRules Untested) es
-      → length (front ++ es) ≤ 65536 → Rises (front ++ es) → length (tableBytes (front ++ es)) ≤ length buffer → TakenInto buffer (front ++ es)
+      → length (front ++ es) ≤ mostKeys → Rises (front ++ es) → length (tableBytes (front ++ es)) ≤ length buffer → TakenInto buffer (front ++ es)
   list-more [] front I bytes each few rising fit = rw append-nil I
   list-more (e ∷ es) front I (each-more b bs) (each-more k ks) few rising fit =
       let a : (front ++ (e ∷ [])) ++ es ≡ front ++ (e ∷ es) = append-assoc front (e ∷ []) es in
@@ -186,7 +191,7 @@ module _ (buffer : List ℕ) where
       subst (TakenInto buffer) a (list-more es (front ++ (e ∷ [])) I' bs ks (rw a few) rising' (rw a fit))
 
 -- THEOREM: a list that keeps the rules, of at most 65,536 keys, is taken into any buffer that its bytes fit in
-pub rules-taken : (table : List Entry) → TableRules Untested table → Each KeyBytes table → length table ≤ 65536
+pub rules-taken : (table : List Entry) → TableRules Untested table → Each KeyBytes table → length table ≤ mostKeys
     → (buffer : List ℕ) → length (tableBytes table) ≤ length buffer → TakenInto buffer table
 rules-taken table rules bytes few buffer fit =
     list-more buffer table []

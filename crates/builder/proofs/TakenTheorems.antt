@@ -1,6 +1,6 @@
 -- What a taken list is: its used bytes are its table's bytes, offsets as set; its state fits and counts its keys; the table keeps the rules.
 -- Assumes nothing.
-use Prim.Native.Nat.{ℕ, _+_, _-_, _^_, _≤_, _<_}
+use Prim.Native.Nat.{ℕ, _+_, _-_, _^_, _<_}
 use mathlib.Core.Path.{_≡_, refl, sym, ap, _∙_}
 use mathlib.Core.Bool.{Bool, true, false}
 use mathlib.Core.List.{List, [], _∷_, _++_}
@@ -9,19 +9,18 @@ use lib.ListN.{length, take, length-append}
 use lib.Seq.{length-take-le, take-at}
 use Rattle.laws.specs.Each.{Each}
 use Rattle.laws.specs.Each.Each.{each-none}
+use Rattle.numbers.specs.Limits.{mostVersions}
+use Rattle.words.specs.Field.{AllBytes}
 use Rattle.words.specs.declared.part.Order.the-variants.{Less}
 use Rattle.words.specs.Part.{orderOf}
-use Rattle.records.specs.declared.Kind.{Kind}
 use Rattle.records.specs.declared.Record.{Record}
-use Rattle.records.specs.declared.DataLength.the-variants.{Untested}
 use Rattle.records.specs.Model.{Entry, tableBytes, rises-none, rises-one}
-use Rattle.records.specs.Tables.{TableRules}
 use Rattle.records.proofs.ModelLaws.{less-is}
 use Rattle.builder.specs.declared.PointBuilder.{PointBuilder}
 use Rattle.builder.specs.State.{emptyBuilder, lastOf, fits}
-use Rattle.builder.specs.Add.{risesAfter, recordOf, newEntry, nextState, appended, addRefusal, bufferAfterAdd}
+use Rattle.builder.specs.Add.{Call, risesAfter, recordOf, newEntry, newState, continuedState, nextState, newBuffer, continuedBuffer, appended, addRefusal}
 use Rattle.builder.specs.SetOffset.{setRefusal, bufferAfterSet}
-use Rattle.builder.specs.Taken.{entry, ending, KeyBytes, onLast, withVersion, withOffset, withLastOffset, tableAfterAdd, tableAfterSet, TakenList, taken-none, taken-added, taken-set}
+use Rattle.builder.specs.Taken.{entry, ending, KeyBytes, onLast, withVersion, withOffset, withLastOffset, tableAfterAdd, tableAfterSet, TakenList, taken-none, taken-added, taken-set, TakenFacts, stateFor}
 use Rattle.builder.proofs.StateLaws.{fits-given}
 use Rattle.builder.proofs.AddLaws.{rises-known, new-passed, continued-passed, new-ready, continued-ready}
 use Rattle.builder.proofs.AnswerLaws.{taken-known, buffer-taken, set-known, set-passed, buffer-set}
@@ -44,39 +43,39 @@ new-greater s buffer front lastKey before last st key r =
 
 -- ---- each way keeps it
 
-module _ (buffer key : List ℕ) (kind : Kind) (size sequence : ℕ) (q : sequence < 2 ^ 64) where
-  held-new : (s : PointBuilder) (table : List Entry) → Held s buffer table → addRefusal s buffer key kind size sequence true ≡ 0 → Held (nextState s key true) (appended s buffer key (recordOf kind size sequence 0) true) (table ++ (newEntry key (recordOf kind size sequence 0) ∷ []))
+module _ (buffer : List ℕ) (call : Call) (q : call .sequence < 2 ^ 64) where
+  held-new : (s : PointBuilder) (table : List Entry) → Held s buffer table → addRefusal s buffer call ≡ 0 → call .newKey ≡ true
+      → Held (newState s (call .key)) (newBuffer s buffer (call .key) (recordOf call)) (table ++ (newEntry (call .key) (recordOf call) ∷ []))
   unfolding tableBytes
-  held-new s table held-none z =
-      let p = new-passed emptyBuilder buffer key kind size sequence z in
-      let r = new-ready emptyBuilder buffer key kind size sequence true refl z in
-      held-some [] key [] (recordOf kind size sequence 0)
-      (new-stands emptyBuilder buffer key [] (recordOf kind size sequence 0) refl (r .0) refl (r .2) (r .1) (record-rules kind size sequence (p .0 .small) (p .0 .valued) q) each-none rises-one)
-  held-new s table (held-some front lastKey before last st) z =
-      let p = new-passed s buffer key kind size sequence z in
-      let r = new-ready s buffer key kind size sequence true refl z in
-      let o : orderOf lastKey key ≡ Less = new-greater s buffer front lastKey before last st key (p .1 .rising) in
-      held-some (ending front lastKey before last) key [] (recordOf kind size sequence 0)
-      (new-stands s buffer key (ending front lastKey before last) (recordOf kind size sequence 0) (st .bytes) (r .0) (st .counted ∙ sym (length-append front (entry lastKey (before ++ (last ∷ [])) ∷ []))) (r .2) (r .1)
-      (record-rules kind size sequence (p .0 .small) (p .0 .valued) q) (st .rules .entries)
-      (rises-on front (entry lastKey (before ++ (last ∷ []))) (newEntry key (recordOf kind size sequence 0)) (st .rules .rises) o))
+  held-new s table held-none z w =
+      let r = new-ready _ _ _ z w in
+      held-some [] (call .key) [] (recordOf call)
+      (new-stands emptyBuilder buffer (call .key) [] (recordOf call) refl (r .0) refl (r .2) (r .1) (record-rules (new-passed _ _ _ z w .0) q) each-none rises-one)
+  held-new s table (held-some front lastKey before last st) z w =
+      let p = new-passed _ _ _ z w in
+      let r = new-ready _ _ _ z w in
+      held-some (ending front lastKey before last) (call .key) [] (recordOf call)
+      (new-stands s buffer (call .key) (ending front lastKey before last) (recordOf call) (st .bytes) (r .0) (st .counted ∙ sym (length-append front (entry lastKey (before ++ (last ∷ [])) ∷ []))) (r .2) (r .1)
+      (record-rules (p .0) q) (st .rules .entries)
+      (rises-on front (entry lastKey (before ++ (last ∷ []))) (newEntry (call .key) (recordOf call)) (st .rules .rises) (new-greater s buffer front lastKey before last st (call .key) (p .1 .rising))))
 
-  held-continued : (s : PointBuilder) (table : List Entry) → Held s buffer table → addRefusal s buffer key kind size sequence false ≡ 0 → Held (nextState s key false) (appended s buffer key (recordOf kind size sequence 0) false) (onLast (withVersion (recordOf kind size sequence 0)) table)
-  held-continued s table held-none z = absurd (continued-passed emptyBuilder buffer key kind size sequence z .1 .keyed refl)
-  held-continued s table (held-some front lastKey before last st) z =
-      let p = continued-passed s buffer key kind size sequence z in
-      let r = continued-ready s buffer key kind size sequence false refl z in
+  held-continued : (s : PointBuilder) (table : List Entry) → Held s buffer table → addRefusal s buffer call ≡ 0 → call .newKey ≡ false
+      → Held (continuedState s) (continuedBuffer s buffer (recordOf call)) (onLast (withVersion (recordOf call)) table)
+  held-continued s table held-none z w = absurd (continued-passed _ _ _ z w .1 .keyed refl)
+  held-continued s table (held-some front lastKey before last st) z w =
+      let p = continued-passed _ _ _ z w in
       let l = last-read s buffer front lastKey before last st in
-      let below : sequence < last .sequence = rw l at (p .1 .older) in
-      let countable : length (before ++ (last ∷ [])) < 4294967295 = rw l at (p .1 .countable) in
-      rw (last-changed (withVersion (recordOf kind size sequence 0)) front (entry lastKey (before ++ (last ∷ []))))
-      (held-some front lastKey (before ++ (last ∷ [])) (recordOf kind size sequence 0)
-      (continued-stands s buffer front lastKey before last st (recordOf kind size sequence 0) (record-rules kind size sequence (p .0 .small) (p .0 .valued) q) below countable key (r .1)))
+      let below : call .sequence < last .sequence = rw l at (p .1 .older) in
+      let countable : length (before ++ (last ∷ [])) < mostVersions = rw l at (p .1 .countable) in
+      rw (last-changed (withVersion (recordOf call)) front (entry lastKey (before ++ (last ∷ []))))
+      (held-some front lastKey (before ++ (last ∷ [])) (recordOf call)
+      (continued-stands s buffer front lastKey before last st (recordOf call) (record-rules (p .0) q) below countable (continued-ready _ _ _ z w .1)))
 
-  pub held-added : (newKey : Bool) (s : PointBuilder) (table : List Entry) → Held s buffer table → addRefusal s buffer key kind size sequence newKey ≡ 0 → Held (nextState s key newKey) (bufferAfterAdd s buffer key kind size sequence newKey) (tableAfterAdd table key (recordOf kind size sequence 0) newKey)
+  held-added : (newKey : Bool) → call .newKey ≡ newKey → (s : PointBuilder) (table : List Entry) → Held s buffer table → addRefusal s buffer call ≡ 0
+      → Held (nextState s call) (appended s buffer call) (tableAfterAdd table call)
   unfolding tableAfterAdd
-  held-added true s table h z = rw (buffer-taken s buffer key kind size sequence true z) (held-new s table h z)
-  held-added false s table h z = rw (buffer-taken s buffer key kind size sequence false z) (held-continued s table h z)
+  held-added true w s table h z = rw w (held-new s table h z w)
+  held-added false w s table h z = rw w (held-continued s table h z w)
 
 pub held-set : (s : PointBuilder) (buffer : List ℕ) (table : List Entry) (place offset : ℕ) → offset < 2 ^ 64 → Held s buffer table → setRefusal s buffer place ≡ 0 → Held s (bufferAfterSet s buffer place offset) (tableAfterSet table offset)
 unfolding tableAfterSet
@@ -89,19 +88,12 @@ held-set s buffer table place offset h (held-some front key before last st) z =
 -- every taken list is held
 pub taken-held : {s : PointBuilder} {buffer : List ℕ} {table : List Entry} → TakenList s buffer table → Held s buffer table
 taken-held taken-none = held-none
-taken-held (taken-added {s} {next} {buffer} {table} {place} key kind size sequence newKey t b q e) =
-    let k = taken-known s buffer key kind size sequence newKey e in
-    rw (k .1) (held-added buffer key kind size sequence q newKey s table (taken-held t) (k .0))
+taken-held (taken-added {s} {next} {buffer} {table} call t b q e) =
+    let k = taken-known _ _ _ e in
+    rw (k .1, buffer-taken _ _ _ (k .0)) (held-added buffer call q (call .newKey) refl s table (taken-held t) (k .0))
 taken-held (taken-set {s} {buffer} {table} place offset t h e) = held-set s buffer table place offset h (taken-held t) (set-known s buffer place e)
 
 -- ---- THEOREM: a taken list
-
-pub record TakenFacts (s : PointBuilder) (buffer : List ℕ) (table : List Entry) : Type 0 where
-  pub fitting : fits s buffer ≡ true
-  pub bytes : take (s .used) buffer ≡ tableBytes table
-  pub counted : s .keys ≡ length table
-  pub few : length table ≤ 65536
-  pub rules : TableRules Untested table
 
 held-facts : {s : PointBuilder} {buffer : List ℕ} {table : List Entry} → Held s buffer table → TakenFacts s buffer table
 unfolding fits tableBytes
@@ -123,10 +115,6 @@ taken-facts t = held-facts (taken-held t)
 
 -- ---- THEOREM: the state of a taken list is fixed by its table
 
--- used: the table's bytes; keys: its entries; head: where its last entry begins
-abbrev pub stateFor : List Entry → PointBuilder
-stateFor table = record { used = length (tableBytes table); keys = length table; head = length (tableBytes (take (length table - 1) table)) }
-
 held-state : {s : PointBuilder} {buffer : List ℕ} {table : List Entry} → Held s buffer table → s ≡ stateFor table
 unfolding tableBytes
 held-state held-none = refl
@@ -145,12 +133,15 @@ taken-state t = held-state (taken-held t)
 
 -- ---- THEOREM: the keys of a taken list are bytes
 
+keys-added : {table : List Entry} (call : Call) (newKey : Bool) → call .newKey ≡ newKey → Each KeyBytes table → AllBytes (call .key) → Each KeyBytes (tableAfterAdd table call)
+unfolding tableAfterAdd
+keys-added {table} call true w ks b = rw w (each-last table (newEntry (call .key) (recordOf call)) ks b)
+keys-added {table} call false w ks b = rw w (each-changed (withVersion (recordOf call)) (λ x p. p) table ks)
+
 pub taken-keys : {s : PointBuilder} {buffer : List ℕ} {table : List Entry} → TakenList s buffer table → Each KeyBytes table
-unfolding tableAfterAdd tableAfterSet
+unfolding tableAfterSet
 taken-keys taken-none = each-none
-taken-keys (taken-added {s} {next} {buffer} {table} {place} key kind size sequence true t b q e) = each-last table (newEntry key (recordOf kind size sequence 0)) (taken-keys t) b
-taken-keys (taken-added {s} {next} {buffer} {table} {place} key kind size sequence false t b q e) =
-    each-changed (withVersion (recordOf kind size sequence 0)) (λ x p. p) table (taken-keys t)
+taken-keys (taken-added call t b q e) = keys-added call (call .newKey) refl (taken-keys t) b
 taken-keys (taken-set {s} {buffer} {table} place offset t h e) = each-changed (withLastOffset offset) (λ x p. p) table (taken-keys t)
 
 -- ---- THEOREM: what the buffer says of the last record is what the list says

@@ -4,6 +4,7 @@ use mathlib.Core.Bool.{Bool, cond, _&&_}
 use mathlib.Core.List.{List}
 use lib.Dec.{leb, eqb}
 use lib.ListN.{length}
+use Rattle.numbers.specs.Limits.{mostKeyBytes, mostKeys}
 use Rattle.records.specs.Places.{keyLength, versionCount, keyAt, nextEntry, sequenceAt}
 use Rattle.builder.specs.declared.PointBuilder.{PointBuilder}
 
@@ -15,10 +16,10 @@ emptyBuilder = record { used = 0; keys = 0; head = 0 }
 -- head + 8 + L + 21v = used, used not past the buffer
 unfoldable pub fitsAt : PointBuilder → List ℕ → Bool
 fitsAt s buffer =
-    leb (s .keys) 65536
+    leb (s .keys) mostKeys
     && (leb (s .used) (length buffer)
     && (leb (s .head + 8) (s .used)
-    && (leb (keyLength buffer (s .head)) 1048576
+    && (leb (keyLength buffer (s .head)) mostKeyBytes
     && (leb 1 (versionCount buffer (s .head))
     && eqb (nextEntry buffer (s .head)) (s .used)))))
 

@@ -1,18 +1,20 @@
 -- Taken lists: the tables whose records went in from the empty state, each call on the last answered state and on one buffer that
 -- nothing else writes (document 01, "Calls").
-use Prim.Native.Nat.{ℕ, _^_, _<_}
+use Prim.Native.Nat.{ℕ, _-_, _^_, _≤_, _<_}
 use mathlib.Core.Path.{_≡_}
-use mathlib.Core.Bool.{Bool, cond}
+use mathlib.Core.Bool.{true, cond}
 use mathlib.Core.List.{List, [], _∷_, _++_}
-use lib.ListN.{length, getD, drop}
-use Rattle.records.specs.declared.Kind.{Kind}
+use lib.ListN.{length, getD, take, drop}
+use Rattle.numbers.specs.Limits.{mostKeys}
 use Rattle.records.specs.declared.Record.{Record}
-use Rattle.records.specs.Model.{Entry}
+use Rattle.records.specs.declared.DataLength.the-variants.{Untested}
+use Rattle.records.specs.Model.{Entry, tableBytes}
+use Rattle.records.specs.Tables.{TableRules}
 use Rattle.builder.specs.declared.PointBuilder.{PointBuilder}
 use Rattle.builder.specs.declared.Added.the-variants as added
 use Rattle.builder.specs.declared.OffsetSet.the-variants.{Set}
-use Rattle.builder.specs.State.{emptyBuilder}
-use Rattle.builder.specs.Add.{recordOf, newEntry, addOf, bufferAfterAdd}
+use Rattle.builder.specs.State.{emptyBuilder, fits}
+use Rattle.builder.specs.Add.{Call, recordOf, newEntry, addOf, bufferAfterAdd}
 use Rattle.builder.specs.SetOffset.{setOf, bufferAfterSet}
 
 -- an entry: a key with its versions
@@ -46,8 +48,9 @@ abbrev pub withLastOffset : ℕ → Entry → Entry
 withLastOffset offset e = record { key = e .key; versions = onLast (withOffset offset) (e .versions) }
 
 -- a table with one record more: a new entry at its end, or a version of the last entry
-unfoldable pub tableAfterAdd : List Entry → List ℕ → Record → Bool → List Entry
-tableAfterAdd table key version newKey = cond newKey (table ++ (newEntry key version ∷ [])) (onLast (withVersion version) table)
+unfoldable pub tableAfterAdd : List Entry → Call → List Entry
+tableAfterAdd table call =
+    cond (call .newKey) (table ++ (newEntry (call .key) (recordOf call) ∷ [])) (onLast (withVersion (recordOf call)) table)
 
 -- a table with the last record's offset set
 unfoldable pub tableAfterSet : List Entry → (offset : ℕ) → List Entry
@@ -56,10 +59,10 @@ tableAfterSet table offset = onLast (withLastOffset offset) table
 -- the state, the buffer and the table of a list that is taken: the empty builder, a record added with offset 0, the last record's offset set
 pub data TakenList : PointBuilder → List ℕ → List Entry → Type 0 where
   taken-none : {buffer : List ℕ} → TakenList emptyBuilder buffer []
-  taken-added : {s next : PointBuilder} {buffer : List ℕ} {table : List Entry} {place : ℕ} (key : List ℕ) (kind : Kind) (size sequence : ℕ) (newKey : Bool)
-      → TakenList s buffer table → ((i : ℕ) → getD key i 0 < 256) → sequence < 2 ^ 64
-      → addOf s buffer key kind size sequence newKey ≡ added.Taken next place
-      → TakenList next (bufferAfterAdd s buffer key kind size sequence newKey) (tableAfterAdd table key (recordOf kind size sequence 0) newKey)
+  taken-added : {s next : PointBuilder} {buffer : List ℕ} {table : List Entry} {place : ℕ} (call : Call)
+      → TakenList s buffer table → ((i : ℕ) → getD (call .key) i 0 < 256) → call .sequence < 2 ^ 64
+      → addOf s buffer call ≡ added.Taken next place
+      → TakenList next (bufferAfterAdd s buffer call) (tableAfterAdd table call)
   taken-set : {s : PointBuilder} {buffer : List ℕ} {table : List Entry} (place offset : ℕ)
       → TakenList s buffer table → offset < 2 ^ 64
       → setOf s buffer place ≡ Set
@@ -72,3 +75,15 @@ pub record TakenInto (buffer : List ℕ) (table : List Entry) : Type 0 where
   pub taken : TakenList state after table
   pub behind : drop (state .used) after ≡ drop (state .used) buffer
   pub whole : length after ≡ length buffer
+
+-- what a taken list is: its state fits and counts its keys, its used bytes are the bytes of its table, and its table keeps the rules of keys and versions
+pub record TakenFacts (s : PointBuilder) (buffer : List ℕ) (table : List Entry) : Type 0 where
+  pub fitting : fits s buffer ≡ true
+  pub bytes : take (s .used) buffer ≡ tableBytes table
+  pub counted : s .keys ≡ length table
+  pub few : length table ≤ mostKeys
+  pub rules : TableRules Untested table
+
+-- the state that a table fixes: used, its bytes; keys, its entries; head, where its last entry begins
+abbrev pub stateFor : List Entry → PointBuilder
+stateFor table = record { used = length (tableBytes table); keys = length table; head = length (tableBytes (take (length table - 1) table)) }

@@ -1,15 +1,18 @@
 // The point builder: records are added to an arena one by one, and the last one's offset is set.
 ghost use mathlib.Core.Path.{_≡_};
-ghost use mathlib.Core.Bool.{true, false};
+ghost use mathlib.Core.Bool.{true};
 ghost use Prim.Native.Nat.{_+_, _≤_, _<_};
 ghost use lib.ListN.{length};
 ghost use Rattle.laws.specs.Refusals.{firstOf};
+ghost use Rattle.numbers.specs.Limits.{mostKeyBytes, mostKeys, mostVersions};
 ghost use Rattle.words.specs.Field.{splice};
 ghost use Rattle.records.specs.Model.{versionBytes};
 ghost use Rattle.records.specs.Places.{versionCount};
 ghost use Rattle.builder.specs.State.{emptyBuilder, fits, lastOf, roomOf};
-ghost use Rattle.builder.specs.Add.{risesAfter, newCauses, continuedCauses, addRefusal, AppendPost, AddPost};
+ghost use Rattle.builder.specs.Add.{risesAfter, newCauses, continuedCauses, addRefusal, newState, continuedState, newBuffer, continuedBuffer, AddPost};
+ghost use Rattle.builder.specs.Inner.Append.{AppendPost};
 ghost use Rattle.builder.specs.SetOffset.{SetPost};
+use numbers::Refusal;
 use records::Arena;
 use records::Kind;
 use records::Record;
@@ -117,18 +120,18 @@ impl PointBuilder {
 
     // Why a record of a new key is refused, or 0: 4 not greater than the last key, 5 too many keys, 6 no room.
     fn new_refusal(self, buffer: &[u8], key: &[u8]) -> u8
-        requires { ⌜ (fits self (now buffer) ≡ true) × (length (now key) ≤ 1048576) ⌝ }
+        requires { ⌜ (fits self (now buffer) ≡ true) × (length (now key) ≤ mostKeyBytes) ⌝ }
         ensures { λ r. ⌜ r ≡ firstOf (newCauses self (lastOf self (now (buffer .entry))) (roomOf self (now (buffer .entry))) (now (key .entry))) ⌝ }
     {
         let used = self.used;
         if !self.rises(buffer, key) {
-            return 4;
+            return Refusal::ORDER;
         }
         if Arena::MAX_KEYS <= self.keys {
-            return 5;
+            return Refusal::COUNT;
         }
         if buffer.len() - used < Head::BYTES + Record::BYTES + key.len() {
-            return 6;
+            return Refusal::BUFFER;
         }
         0
     }
@@ -141,19 +144,19 @@ impl PointBuilder {
         let used = self.used;
         let head = self.head;
         if self.keys == 0 {
-            return 4;
+            return Refusal::ORDER;
         }
         if !words::part::same(key_at(buffer, head), key) {
-            return 4;
+            return Refusal::ORDER;
         }
         if words::field::u64_at(buffer, used - Record::BYTES) <= sequence {
-            return 4;
+            return Refusal::ORDER;
         }
         if PointBuilder::MAX_VERSIONS <= words::field::u32_at(buffer, head + 4) {
-            return 5;
+            return Refusal::COUNT;
         }
         if buffer.len() - used < Record::BYTES {
-            return 6;
+            return Refusal::BUFFER;
         }
         0
     }
@@ -168,19 +171,19 @@ impl PointBuilder {
         sequence: u64,
         new_key: bool,
     ) -> u8
-        ensures { λ r. ⌜ r ≡ addRefusal self (now (buffer .entry)) (now (key .entry)) kind length sequence «new_key» ⌝ }
+        ensures { λ r. ⌜ r ≡ addRefusal self (now (buffer .entry)) (record { key = now (key .entry); kind = kind; size = length; sequence = sequence; newKey = «new_key» }) ⌝ }
     {
         if !self.fits(buffer) {
-            return 1;
+            return Refusal::STATE;
         }
         if (Head::MAX_KEY as usize) < key.len() {
-            return 2;
+            return Refusal::TOO_LONG;
         }
         if (Record::MAX_VALUE as u64) < length {
-            return 2;
+            return Refusal::TOO_LONG;
         }
         if full_tombstone(kind.byte(), length) {
-            return 3;
+            return Refusal::TOMBSTONE;
         }
         if new_key {
             return self.new_refusal(buffer, key);
@@ -190,8 +193,8 @@ impl PointBuilder {
 
     // Writes a new entry with one version behind the used bytes.
     fn append_new(self, buffer: &mut [u8], key: &[u8], version: Record) -> Added
-        requires { ⌜ (self .used + (29 + length (now key)) ≤ length (now buffer)) × (length (now key) ≤ 1048576) × (self .keys < 65536) ⌝ }
-        ensures { λ r. ⌜ AppendPost self (now (buffer .entry)) (now (key .entry)) version true r (now (buffer .exit)) ⌝ }
+        requires { ⌜ (self .used + (29 + length (now key)) ≤ length (now buffer)) × (length (now key) ≤ mostKeyBytes) × (self .keys < mostKeys) ⌝ }
+        ensures { λ r. ⌜ AppendPost (newState self (now (key .entry))) (newBuffer self (now (buffer .entry)) (now (key .entry)) version) r (now (buffer .exit)) ⌝ }
     {
         let used = self.used;
         let size = key.len();
@@ -209,9 +212,9 @@ impl PointBuilder {
     }
 
     // Raises the last key's count and writes a version behind the used bytes.
-    fn append_version(self, buffer: &mut [u8], key: &[u8], version: Record) -> Added
-        requires { ⌜ (self .head + 8 ≤ self .used) × (self .used + 21 ≤ length (now buffer)) × (versionCount (now buffer) (self .head) < 4294967295) ⌝ }
-        ensures { λ r. ⌜ AppendPost self (now (buffer .entry)) (now (key .entry)) version false r (now (buffer .exit)) ⌝ }
+    fn append_version(self, buffer: &mut [u8], version: Record) -> Added
+        requires { ⌜ (self .head + 8 ≤ self .used) × (self .used + 21 ≤ length (now buffer)) × (versionCount (now buffer) (self .head) < mostVersions) ⌝ }
+        ensures { λ r. ⌜ AppendPost (continuedState self) (continuedBuffer self (now (buffer .entry)) version) r (now (buffer .exit)) ⌝ }
     {
         let used = self.used;
         let head = self.head;
@@ -237,7 +240,7 @@ impl PointBuilder {
         sequence: u64,
         new_key: bool,
     ) -> Added
-        ensures { λ r. ⌜ AddPost self (now (buffer .entry)) (now (key .entry)) kind length sequence «new_key» r (now (buffer .exit)) ⌝ }
+        ensures { λ r. ⌜ AddPost self (now (buffer .entry)) (record { key = now (key .entry); kind = kind; size = length; sequence = sequence; newKey = «new_key» }) r (now (buffer .exit)) ⌝ }
     {
         let refusal = self.add_refusal(buffer, key, kind, length, sequence, new_key);
         if refusal != 0 {
@@ -252,7 +255,7 @@ impl PointBuilder {
         if new_key {
             return self.append_new(buffer, key, version);
         }
-        self.append_version(buffer, key, version)
+        self.append_version(buffer, version)
     }
 
     // Sets the offset of the last record, at the place that add answered.
@@ -261,13 +264,13 @@ impl PointBuilder {
     {
         let used = self.used;
         if !self.fits(buffer) {
-            return OffsetSet::Refused(1);
+            return OffsetSet::Refused(Refusal::STATE);
         }
         if self.keys == 0 {
-            return OffsetSet::Refused(7);
+            return OffsetSet::Refused(Refusal::PLACE);
         }
         if place != used - 8 {
-            return OffsetSet::Refused(7);
+            return OffsetSet::Refused(Refusal::PLACE);
         }
         words::field::put_u64(buffer, place, offset);
         OffsetSet::Set

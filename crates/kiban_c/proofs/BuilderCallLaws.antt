@@ -44,7 +44,7 @@ module _ {buffer state key : List ℕ} {kind size sequence newKey : ℕ} {answer
       record { number = first-number f p _; buffer-after = first-left f p _ _; state-after = first-left f p _ _; answer-after = first-left f p _ _ }
 
   pub add-made : {s : PointBuilder} {known : Kind} {given r : Added} {buffer' state' answer' : List ℕ} → None (addChecks state kind answer)
-      → s ≡ stateOf state → known ≡ kindOf kind → AddPost s buffer key known size sequence (flagOf newKey) given buffer' → given ≡ r
+      → s ≡ stateOf state → known ≡ kindOf kind → AddPost s buffer (record { key = key; kind = known; size = size; sequence = sequence; newKey = flagOf newKey }) given buffer' → given ≡ r
       → state' ≡ splice state 0 (stateValues r) → answer' ≡ splice answer 0 (addedValues r)
       → AddCall buffer state key kind size sequence newKey answer (addedNumber r) buffer' state' answer'
   add-made {s} {known} {given} {r} c se ke p g ws av =

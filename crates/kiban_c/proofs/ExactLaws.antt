@@ -7,20 +7,20 @@ use mathlib.Core.Bool.{Bool, true, false, cond}
 use mathlib.Core.List.{List, [], _∷_}
 use mathlib.Core.Logic.{_⊎_, inl, inr}
 use borrow.Author.Tests.{ne-eqb}
-use lib.Dec.{eqb, ltb, leb}
+use lib.Dec.{eqb, ltb, leb, lit<}
 use lib.ListN.{length, replicate}
+use Rattle.laws.specs.Each.{Each}
+use Rattle.laws.specs.Each.Each.{each-none, each-more}
 use Rattle.laws.specs.Refusals.{Cause, firstOf, orElse, First, here, later}
 use Rattle.words.specs.Field.{splice}
-use Rattle.records.specs.declared.Kind.{Kind}
-use Rattle.records.specs.Places.{kindOf}
 use Rattle.records.specs.Rules.{badKind}
 use Rattle.builder.specs.declared.PointBuilder.{PointBuilder}
 use Rattle.builder.specs.declared.Added.{Added}
 use Rattle.builder.specs.declared.Added.the-variants as added
 use Rattle.builder.specs.declared.OffsetSet.{OffsetSet}
 use Rattle.builder.specs.declared.OffsetSet.the-variants as offset-set
-use Rattle.builder.specs.State.{Last, fits, lastOf, roomOf}
-use Rattle.builder.specs.Add.{newCauses, continuedCauses, addCauses, addedNumber, stateValues, addedValues, addOf, bufferAfterAdd}
+use Rattle.builder.specs.State.{lastOf, roomOf}
+use Rattle.builder.specs.Add.{Call, newCauses, continuedCauses, takingCauses, addCauses, addedNumber, stateValues, addedValues, addOf, bufferAfterAdd}
 use Rattle.builder.specs.SetOffset.{setOf, bufferAfterSet, setNumber}
 use Rattle.builder.proofs.Answers.{add-refuses, add-refuses-only, set-refuses, set-refuses-only}
 use Rattle.finish.specs.declared.Finished.{Finished}
@@ -41,9 +41,9 @@ use Rattle.filter.specs.Reading.{readOf, readRefusal, readValues}
 use Rattle.filter.specs.Building.{builtRefusal, builtValues, hashesBy, spaceBy, outBy}
 use Rattle.lines.specs.declared.Listed.the-variants.{Text, Refused}
 use Rattle.lines.specs.Listing.{listedOf, bufferOf, listedNumber, listedValues}
-use Rattle.kiban_c.specs.Lent.{SixFirst, answerShort, numberBy, leftBy}
+use Rattle.kiban_c.specs.Lent.{answerShort, numberBy, leftBy, SixFirst}
 use Rattle.kiban_c.specs.SortCalls.{SortCall}
-use Rattle.kiban_c.specs.BuilderCalls.{stateOf, flagOf, addCalled, AddCall, SetOffsetCall}
+use Rattle.kiban_c.specs.BuilderCalls.{stateOf, callGiven, addCalled, AddCall, SetOffsetCall}
 use Rattle.kiban_c.specs.FinishCalls.{finishCalled, FinishCall}
 use Rattle.kiban_c.specs.PointCalls.{limitGiven, getCalled, GetCall}
 use Rattle.kiban_c.specs.FilterCalls.{buildCalled, FilterBuildCall, FilterReadCall, askAllValues, FilterAskAllCall}
@@ -87,32 +87,27 @@ sort-refuses-nothing P = P .number
 -- ---- add
 
 -- add itself never answers 28
-own-causes : (s : PointBuilder) (fitting : Bool) (last : Last) (room : ℕ) (key : List ℕ) (kind : Kind) (size sequence : ℕ) (newKey : Bool)
-    → First 28 (addCauses s fitting last room key kind size sequence newKey) → ⊥
-unfolding addCauses newCauses continuedCauses
-own-causes s fitting last room key kind size sequence newKey (here h z) = omega arith
-own-causes s fitting last room key kind size sequence newKey (later h (here h1 z)) = omega arith
-own-causes s fitting last room key kind size sequence newKey (later h (later h1 (here h2 z))) = omega arith
-own-causes s fitting last room key kind size sequence newKey (later h (later h1 (later h2 (here h3 z)))) = omega arith
-own-causes s fitting last room key kind size sequence true (later h (later h1 (later h2 (later h3 (here h4 z))))) = omega arith
-own-causes s fitting last room key kind size sequence true (later h (later h1 (later h2 (later h3 (later h4 (here h5 z)))))) = omega arith
-own-causes s fitting last room key kind size sequence true (later h (later h1 (later h2 (later h3 (later h4 (later h5 (here h6 z))))))) = omega arith
-own-causes s fitting last room key kind size sequence false (later h (later h1 (later h2 (later h3 (here h4 z))))) = omega arith
-own-causes s fitting last room key kind size sequence false (later h (later h1 (later h2 (later h3 (later h4 (here h5 z)))))) = omega arith
-own-causes s fitting last room key kind size sequence false (later h (later h1 (later h2 (later h3 (later h4 (later h5 (here h6 z))))))) = omega arith
-own-causes s fitting last room key kind size sequence false (later h (later h1 (later h2 (later h3 (later h4 (later h5 (later h6 (here h7 z)))))))) = omega arith
-own-causes s fitting last room key kind size sequence false (later h (later h1 (later h2 (later h3 (later h4 (later h5 (later h6 (later h7 (here h8 z))))))))) = omega arith
+first-below : {m n : ℕ} {cs : List Cause} → Each (λ c. c .number < m) cs → First n cs → n < m
+first-below (each-more p ps) (here h e) = omega arith
+first-below (each-more p ps) (later h f) = first-below ps f
 
-module _ (s : PointBuilder) (buffer key : List ℕ) (kind : Kind) (size sequence : ℕ) (newKey : Bool) where
-  own-kind : (a : Added) → addOf s buffer key kind size sequence newKey ≡ a → addedNumber a ≡ 28 → ⊥
+module _ (s : PointBuilder) (buffer : List ℕ) (call : Call) where
+  key-below : (newKey : Bool) → Each (λ c. c .number < 28) (cond newKey (newCauses s (lastOf s buffer) (roomOf s buffer) (call .key)) (continuedCauses s (lastOf s buffer) (roomOf s buffer) (call .key) (call .sequence)))
+  unfolding newCauses continuedCauses
+  key-below true = each-more (lit< tt) (each-more (lit< tt) (each-more (lit< tt) each-none))
+  key-below false = each-more (lit< tt) (each-more (lit< tt) (each-more (lit< tt) (each-more (lit< tt) (each-more (lit< tt) each-none))))
+
+  own-below : {n : ℕ} → First n (addCauses s buffer call) → n < 28
+  unfolding addCauses takingCauses
+  own-below f = first-below (each-more (lit< tt) (each-more (lit< tt) (each-more (lit< tt) (each-more (lit< tt) (key-below (call .newKey)))))) f
+
+  own-kind : (a : Added) → addOf s buffer call ≡ a → addedNumber a ≡ 28 → ⊥
   own-kind (added.Taken next place) e z = omega arith
-  own-kind (added.Refused n) e z =
-      own-causes s (fits s buffer) (lastOf s buffer) (roomOf s buffer) key kind size sequence newKey (add-refuses-only s buffer key kind size sequence newKey (e ∙ ap added.Refused z))
+  own-kind (added.Refused n) e z = omega (arith, own-below (add-refuses-only s buffer call e))
 
-  add-kept : (a : Added) → addOf s buffer key kind size sequence newKey ≡ a → 0 < addedNumber a
-      → (bufferAfterAdd s buffer key kind size sequence newKey ≡ buffer) × (stateValues a ≡ []) × (addedValues a ≡ [])
+  add-kept : (a : Added) → addOf s buffer call ≡ a → 0 < addedNumber a → (bufferAfterAdd s buffer call ≡ buffer) × (stateValues a ≡ []) × (addedValues a ≡ [])
   add-kept (added.Taken next place) e o = absurd (omega arith)
-  add-kept (added.Refused n) e o = (add-refuses s buffer key kind size sequence newKey (add-refuses-only s buffer key kind size sequence newKey e) .1, refl, refl)
+  add-kept (added.Refused n) e o = (add-refuses s buffer call (add-refuses-only s buffer call e) .1, refl, refl)
 
 -- another kind, by the kinds that there are
 other-kind : (kind : ℕ) → (kind ≡ 1 → ⊥) → (kind ≡ 2 → ⊥) → badKind kind ≡ true
@@ -148,13 +143,13 @@ module _ {buffer state key answer : List ℕ} {kind size sequence newKey r : ℕ
       let ns : length state < 3 → ⊥ = λ h. let z = add-state-short a h in omega arith in
       let s : 3 ≤ length state = omega arith in
       let never : (kind ≡ 1) ⊎ (kind ≡ 2) → ⊥ =
-      λ k. own-kind (stateOf state) buffer key (kindOf kind) size sequence (flagOf newKey) (addCalled buffer state key kind size sequence newKey) refl (sym (add-own a s k) ∙ e) in
+      λ k. own-kind (stateOf state) buffer (callGiven key kind size sequence newKey) (addCalled buffer state key kind size sequence newKey) refl (sym (add-own a s k) ∙ e) in
       (a, s, λ z. never (inl z), λ z. never (inr z))
 
   -- THEOREM: a refused call leaves buffer, state and answer
   pub add-refused-leaves : 0 < r → (buffer' ≡ buffer) × (state' ≡ state) × (answer' ≡ answer)
   add-refused-leaves o =
-      let k = add-kept (stateOf state) buffer key (kindOf kind) size sequence (flagOf newKey) (addCalled buffer state key kind size sequence newKey) refl in (
+      let k = add-kept (stateOf state) buffer (callGiven key kind size sequence newKey) (addCalled buffer state key kind size sequence newKey) refl in (
         P .buffer-after ∙ kept _ (P .number) o buffer _ (λ q. k q .0),
         P .state-after ∙ kept _ (P .number) o state _ (λ q. unput state (k q .1)),
         P .answer-after ∙ kept _ (P .number) o answer _ (λ q. unput answer (k q .2)),

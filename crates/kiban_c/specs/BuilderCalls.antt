@@ -10,7 +10,7 @@ use Rattle.words.specs.Field.{splice}
 use Rattle.records.specs.Places.{kindOf}
 use Rattle.builder.specs.declared.PointBuilder.{PointBuilder}
 use Rattle.builder.specs.declared.Added.{Added}
-use Rattle.builder.specs.Add.{addOf, bufferAfterAdd, addedNumber, stateValues, addedValues}
+use Rattle.builder.specs.Add.{Call, addOf, bufferAfterAdd, addedNumber, stateValues, addedValues}
 use Rattle.builder.specs.SetOffset.{setOf, bufferAfterSet, setNumber}
 use Rattle.kiban_c.specs.Lent.{answerShort, stateShort, kindOther, numberBy, leftBy}
 
@@ -26,13 +26,18 @@ flagOf n = not (eqb n 0)
 abbrev pub addChecks : (state : List ℕ) (kind : ℕ) (answer : List ℕ) → List Cause
 addChecks state kind answer = answerShort answer 1 ∷ stateShort state ∷ kindOther kind ∷ []
 
--- what add answers, with the state and the kind that were given (another kind was refused before: `kindOf` would read it as a tombstone)
+-- add's call, of the kind that was given (another kind was refused before: `kindOf` would read it as a tombstone)
+abbrev pub callGiven : (key : List ℕ) (kind size sequence newKey : ℕ) → Call
+callGiven key kind size sequence newKey =
+    record { key = key; kind = kindOf kind; size = size; sequence = sequence; newKey = flagOf newKey }
+
+-- what add answers, with the state that was given
 abbrev pub addCalled : (buffer state key : List ℕ) (kind size sequence newKey : ℕ) → Added
-addCalled buffer state key kind size sequence newKey = addOf (stateOf state) buffer key (kindOf kind) size sequence (flagOf newKey)
+addCalled buffer state key kind size sequence newKey = addOf (stateOf state) buffer (callGiven key kind size sequence newKey)
 
 -- the buffer that it leaves
 abbrev pub addBuffer : (buffer state key : List ℕ) (kind size sequence newKey : ℕ) → List ℕ
-addBuffer buffer state key kind size sequence newKey = bufferAfterAdd (stateOf state) buffer key (kindOf kind) size sequence (flagOf newKey)
+addBuffer buffer state key kind size sequence newKey = bufferAfterAdd (stateOf state) buffer (callGiven key kind size sequence newKey)
 
 -- what kiban_add commits to: the number, and every lent byte and word
 pub record AddCall (buffer state key : List ℕ) (kind size sequence newKey : ℕ) (answer : List ℕ) (r : ℕ) (buffer' state' answer' : List ℕ) : Type 0 where

@@ -3,6 +3,7 @@ use super::lent::put_words;
 use builder::Added;
 use builder::OffsetSet;
 use builder::PointBuilder;
+use numbers::Refusal;
 use records::Kind;
 use records::KindRead;
 ghost use mathlib.Core.Path.{_≡_};
@@ -37,13 +38,13 @@ pub extern "C" fn kiban_add(
     ensures { λ r. ⌜ AddCall (now (buffer .entry)) (now (state .entry)) (now (key .entry)) kind length sequence «new_key» (now (answer .entry)) r (now (buffer .exit)) (now (state .exit)) (now (answer .exit)) ⌝ }
 {
     if answer.len() < 1 {
-        return 6;
+        return Refusal::BUFFER as u64;
     }
     if state.len() < 3 {
-        return 1;
+        return Refusal::STATE as u64;
     }
     let KindRead::Known(known) = Kind::from_byte(kind) else {
-        return 28;
+        return Refusal::KIND as u64;
     };
     let from = state_of(state);
     match from.add(buffer, key, known, length, sequence, new_key != 0) {
@@ -63,7 +64,7 @@ pub extern "C" fn kiban_set_offset(buffer: &mut [u8], state: &[u64], place: u64,
     ensures { λ r. ⌜ SetOffsetCall (now (buffer .entry)) (now (state .entry)) place offset r (now (buffer .exit)) ⌝ }
 {
     if state.len() < 3 {
-        return 1;
+        return Refusal::STATE as u64;
     }
     let from = state_of(state);
     match from.set_value_offset(buffer, place as usize, offset) {

@@ -4,6 +4,7 @@ use filter::Asked;
 use filter::Built;
 use filter::SstFilter;
 use fuse::Sizes;
+use numbers::Refusal;
 use words::part;
 ghost use mathlib.Core.List.{map};
 ghost use mathlib.Core.Path.{_≡_};
@@ -25,7 +26,7 @@ pub extern "C" fn kiban_filter_build(
     ensures { λ r. ⌜ FilterBuildCall (now (hashes .entry)) (now (wide .entry)) (now (narrow .entry)) (now (out .entry)) (now (answer .entry)) r (now (hashes .exit)) (now (wide .exit)) (now (narrow .exit)) (now (out .exit)) (now (answer .exit)) ⌝ }
 {
     if answer.len() < 1 {
-        return 6;
+        return Refusal::BUFFER as u64;
     }
     match filter::build(hashes, wide, narrow, out) {
         Built::Positive => {
@@ -46,7 +47,7 @@ pub extern "C" fn kiban_filter_read(bytes: &[u8], answer: &mut [u64]) -> u64
     ensures { λ r. ⌜ FilterReadCall (now (bytes .entry)) (now (answer .entry)) r (now (answer .exit)) ⌝ }
 {
     if answer.len() < 6 {
-        return 6;
+        return Refusal::BUFFER as u64;
     }
     match filter::read(bytes) {
         SstFilter::Positive => {
@@ -59,7 +60,7 @@ pub extern "C" fn kiban_filter_read(bytes: &[u8], answer: &mut [u64]) -> u64
             put_words(answer, &held);
             0
         }
-        SstFilter::Refused => 15,
+        SstFilter::Refused => Refusal::FILTER as u64,
     }
 }
 
@@ -70,7 +71,7 @@ fn number(answer: Asked) -> u8
     match answer {
         Asked::Absent => 0,
         Asked::Maybe => 1,
-        Asked::Refused => 15,
+        Asked::Refused => Refusal::FILTER,
     }
 }
 
@@ -100,7 +101,7 @@ pub extern "C" fn kiban_filter_ask_all(bytes: &[u8], hashes: &[u64], answers: &m
     ensures { λ r. ⌜ FilterAskAllCall (now (bytes .entry)) (now (hashes .entry)) (now (answers .entry)) r (now (answers .exit)) ⌝ }
 {
     if answers.len() < hashes.len() {
-        return 6;
+        return Refusal::BUFFER as u64;
     }
     match filter::read(bytes) {
         SstFilter::Positive => {
@@ -111,6 +112,6 @@ pub extern "C" fn kiban_filter_ask_all(bytes: &[u8], hashes: &[u64], answers: &m
             ask_each(s, &bytes[Sizes::HEADER..], hashes, answers);
             0
         }
-        SstFilter::Refused => 15,
+        SstFilter::Refused => Refusal::FILTER as u64,
     }
 }

@@ -1,5 +1,6 @@
 // Finish: the answer is one word (the body's length).
 use finish::Finished;
+use numbers::Refusal;
 ghost use Rattle.kiban_c.specs.FinishCalls.{FinishCall};
 
 // Finishes an arena: 0, with the body's length in front of `answer`, or the refusal; 6 first for an answer under one word.
@@ -14,7 +15,7 @@ pub extern "C" fn kiban_finish(
     ensures { λ r. ⌜ FinishCall (now (arena .entry)) (now (out .entry)) (now (wide .entry)) (now (narrow .entry)) (now (answer .entry)) r (now (out .exit)) (now (wide .exit)) (now (narrow .exit)) (now (answer .exit)) ⌝ }
 {
     if answer.len() < 1 {
-        return 6;
+        return Refusal::BUFFER as u64;
     }
     match finish::finish(arena, out, wide, narrow) {
         Finished::Body(size) => {

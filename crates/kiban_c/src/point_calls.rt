@@ -1,5 +1,6 @@
 // Reading an index: get's answer is four words (kind, sequence, offset, length).
 use super::lent::put_words;
+use numbers::Refusal;
 use point::Answer;
 use point::Validated;
 use records::Kind;
@@ -50,7 +51,7 @@ pub extern "C" fn kiban_get(
     ensures { λ r. ⌜ GetCall (now (body .entry)) (now («data» .entry)) (now (key .entry)) limited limit (now (answer .entry)) r (now (answer .exit)) ⌝ }
 {
     if answer.len() < 4 {
-        return 6;
+        return Refusal::BUFFER as u64;
     }
     match point::get(body, data, key, limit_given(limited, limit)) {
         Answer::Found(r) => {

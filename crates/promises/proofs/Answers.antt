@@ -12,9 +12,9 @@ use Rattle.promises.specs.Answers.{Answers}
 -- THEOREM: every answer
 pub answers : Answers
 answers = record {
-  add = λ s buffer key kind size sequence newKey. record {
-    add-values = builder.taken-values s buffer key kind size sequence newKey;
-    add-refused-values = λ n. builder.refused-values s buffer key kind size sequence newKey;
+  add = λ s buffer call. record {
+    add-values = builder.taken-values s buffer call;
+    add-refused-values = λ n. builder.refused-values s buffer call;
   };
   construct = λ {hashes} {n} {wide} {narrow} {r} P. record {
     construct-values = construct.taken-values hashes n wide narrow r P;

@@ -8,15 +8,15 @@ use Rattle.records.specs.Model.{versionBytes, versionsBytes, entryBytes}
 use Rattle.builder.specs.declared.Added.{Added}
 use Rattle.builder.specs.declared.Added.the-variants.{Taken, Refused}
 use Rattle.builder.specs.State.{fits, lastOf}
-use Rattle.builder.specs.Add.{risesAfter, newCauses, addCauses, addRefusal, appended, addOf, bufferAfterAdd}
+use Rattle.builder.specs.Add.{risesAfter, newCauses, takingCauses, addCauses, addRefusal, newBuffer, addOf, bufferAfterAdd}
 use Rattle.promises.specs.IdleAdd.{FirstAdd, firstState, firstBuffer, IdleAdd}
 
 first-answer : {r : Added} {after : List ℕ} → FirstAdd r after → r ≡ Taken firstState 22
-unfolding addOf addRefusal addCauses newCauses risesAfter fits lastOf
+unfolding addOf addRefusal addCauses takingCauses newCauses risesAfter fits lastOf
 first-answer P = P .answer
 
 first-buffer : {r : Added} {after : List ℕ} → FirstAdd r after → after ≡ firstBuffer
-unfolding bufferAfterAdd addRefusal addCauses newCauses risesAfter fits lastOf appended splice entryBytes versionsBytes versionBytes bytesOf
+unfolding bufferAfterAdd addRefusal addCauses takingCauses newCauses risesAfter fits lastOf newBuffer splice entryBytes versionsBytes versionBytes bytesOf
 first-buffer P = P .buffer
 
 -- the keys of an answered state

@@ -6,11 +6,10 @@ use mathlib.Core.List.{List}
 use native.Mathlib.Omega.{arith}
 use borrow.Author.Tests.{eq-eqb, ne-eqb}
 use lib.ListN.{length, replicate}
-use Rattle.records.specs.declared.Kind.{Kind}
 use Rattle.builder.specs.declared.PointBuilder.{PointBuilder}
 use Rattle.builder.specs.declared.Added.{Added}
 use Rattle.builder.specs.declared.OffsetSet.{OffsetSet}
-use Rattle.builder.specs.Add.{addedNumber, AddPost}
+use Rattle.builder.specs.Add.{Call, addedNumber, AddPost}
 use Rattle.builder.specs.SetOffset.{setNumber, SetPost}
 use Rattle.builder.proofs.Answers.{add-refuses, add-cause, cause-add, set-refuses, set-cause, cause-set}
 use Rattle.finish.specs.declared.Finished.{Finished}
@@ -27,13 +26,13 @@ use Rattle.sort.specs.Sort.{sorted}
 use Rattle.lines.proofs.Theorems.{listing-cause, cause-listing}
 use Rattle.promises.specs.Refused.{AddRefused, SetRefused, SpaceLeft, FinishRefused, GetRefused, BuildRefused, Demand1}
 
-pub add-refusals : {s : PointBuilder} {before key : List ℕ} {kind : Kind} {size sequence : ℕ} {newKey : Bool} {r : Added} {after : List ℕ}
-    → AddPost s before key kind size sequence newKey r after → AddRefused s before key kind size sequence newKey r after
-add-refusals {s} {before} {key} {kind} {size} {sequence} {newKey} P = record {
+pub add-refusals : {s : PointBuilder} {before : List ℕ} {call : Call} {r : Added} {after : List ℕ}
+    → AddPost s before call r after → AddRefused s before call r after
+add-refusals {s} {before} {call} P = record {
   add-refused = λ n l e.
-      let f = add-cause s before key kind size sequence newKey n l (ap addedNumber (sym (P .answer)) ∙ e) in
-      (f, P .buffer ∙ add-refuses s before key kind size sequence newKey f .1);
-  refused-add = λ n f. ap addedNumber (P .answer) ∙ cause-add s before key kind size sequence newKey n f;
+      let f = add-cause s before call n l (ap addedNumber (sym (P .answer)) ∙ e) in
+      (f, P .buffer ∙ add-refuses s before call f .1);
+  refused-add = λ n f. ap addedNumber (P .answer) ∙ cause-add s before call n f;
 }
 
 set-refusals : {s : PointBuilder} {before : List ℕ} {place offset : ℕ} {r : OffsetSet} {after : List ℕ} → SetPost s before place offset r after → SetRefused s before place r after

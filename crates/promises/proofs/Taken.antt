@@ -24,12 +24,12 @@ taken-lists = record { list-taken = rules-taken; taken-kept = taken-kept; list-g
 -- THEOREM: no call adds versions oldest first
 pub never-oldest-first : NeverOldestFirst
 never-oldest-first = record {
-  added-older = λ {s} {buffer} {list} {key} {kind} {size} {sequence} {newKey} t P z.
-      oldest.added-older buffer key kind size sequence newKey t (ap addedNumber (sym (P .answer)) ∙ z);
-  never-oldest-first = λ {s} {buffer} front key before last {kind} {size} {sequence} {newKey} t h P.
-      let n = oldest.never-oldest-first front key before last kind size sequence newKey t h in
+  added-older = λ {s} {buffer} {list} {call} t P z.
+      oldest.added-older buffer call t (ap addedNumber (sym (P .answer)) ∙ z);
+  never-oldest-first = λ {s} {buffer} front before last {call} t h P.
+      let n = oldest.never-oldest-first front before last call t h in
       (λ z. n .0 (ap addedNumber (sym (P .answer)) ∙ z), P .buffer ∙ n .1);
-  oldest-first-four = λ {s} {buffer} front key before last {kind} {size} {sequence} {newKey} t h small empty P.
-      let f = oldest.oldest-first-four front key before last kind size sequence newKey t h small empty in
+  oldest-first-four = λ {s} {buffer} front before last {call} t h small empty P.
+      let f = oldest.oldest-first-four front before last call t h small empty in
       (ap addedNumber (P .answer ∙ f .0), P .buffer ∙ f .1);
 }

@@ -2,21 +2,19 @@
 -- no other number. What each number above 0 is given for stands in `Refused`. A record for each answer; `Answers` says that all hold.
 use Prim.Native.Nat.{ℕ, _+_, _^_, _<_, _≤_}
 use mathlib.Core.Path.{_≡_}
-use mathlib.Core.Bool.{Bool, true, cond}
+use mathlib.Core.Bool.{true, cond}
 use mathlib.Core.List.{List, [], _∷_, _++_}
 use mathlib.Core.Logic.{_⊎_}
 use mathlib.Core.Option.{none, some}
 use lib.ListN.{length, take}
 use Rattle.laws.specs.Refusals.{First, None}
 use Rattle.words.specs.Field.{splice}
-use Rattle.records.specs.declared.Kind.{Kind}
 use Rattle.records.specs.declared.Limit.{Limit}
 use Rattle.records.specs.declared.Record.{Record}
 use Rattle.records.specs.Model.{kindByte}
 use Rattle.records.specs.Places.{firstVersion, versionCount}
 use Rattle.builder.specs.declared.PointBuilder.{PointBuilder}
-use Rattle.builder.specs.State.{fits, lastOf, roomOf}
-use Rattle.builder.specs.Add.{addCauses, addOf, addedNumber, stateValues, addedValues, nextState, nextPlace}
+use Rattle.builder.specs.Add.{Call, addCauses, addOf, addedNumber, stateValues, addedValues, nextState, nextPlace}
 use Rattle.construct.specs.declared.Constructed.{Constructed}
 use Rattle.construct.specs.Construct.{Placing, attemptOf, constructOf}
 use Rattle.construct.specs.Layout.{constructedNumber, constructedValues, ConstructPost}
@@ -42,13 +40,13 @@ use Rattle.lines.specs.Shown.{Rule}
 use Rattle.lines.specs.Listing.{textOf, listedNumber, listedValues, Listing}
 
 -- builder::Added: 0, the next state's words and the patch place; a refusal has no values
-pub record AddAnswers (s : PointBuilder) (buffer key : List ℕ) (kind : Kind) (size sequence : ℕ) (newKey : Bool) : Type 0 where
-  pub add-values : None (addCauses s (fits s buffer) (lastOf s buffer) (roomOf s buffer) key kind size sequence newKey)
-      → (addedNumber (addOf s buffer key kind size sequence newKey) ≡ 0)
-      × (stateValues (addOf s buffer key kind size sequence newKey) ≡ nextState s key newKey .used ∷ nextState s key newKey .keys ∷ nextState s key newKey .head ∷ [])
-      × (addedValues (addOf s buffer key kind size sequence newKey) ≡ nextPlace s key newKey ∷ [])
-  pub add-refused-values : (n : ℕ) → First n (addCauses s (fits s buffer) (lastOf s buffer) (roomOf s buffer) key kind size sequence newKey)
-      → (stateValues (addOf s buffer key kind size sequence newKey) ≡ []) × (addedValues (addOf s buffer key kind size sequence newKey) ≡ [])
+pub record AddAnswers (s : PointBuilder) (buffer : List ℕ) (call : Call) : Type 0 where
+  pub add-values : None (addCauses s buffer call)
+      → (addedNumber (addOf s buffer call) ≡ 0)
+      × (stateValues (addOf s buffer call) ≡ nextState s call .used ∷ nextState s call .keys ∷ nextState s call .head ∷ [])
+      × (addedValues (addOf s buffer call) ≡ nextPlace s call ∷ [])
+  pub add-refused-values : (n : ℕ) → First n (addCauses s buffer call)
+      → (stateValues (addOf s buffer call) ≡ []) × (addedValues (addOf s buffer call) ≡ [])
 
 -- construct::Constructed: 0 and the attempt, or 10
 pub record ConstructAnswers (hashes : ℕ → List ℕ) (r : Constructed) : Type 0 where
@@ -100,7 +98,7 @@ pub record BuildAnswers (r : Built) (out' : List ℕ) : Type 0 where
 
 -- every answer
 pub record Answers : Type 0 where
-  pub add : (s : PointBuilder) (buffer key : List ℕ) (kind : Kind) (size sequence : ℕ) (newKey : Bool) → AddAnswers s buffer key kind size sequence newKey
+  pub add : (s : PointBuilder) (buffer : List ℕ) (call : Call) → AddAnswers s buffer call
   pub construct : {hashes : ℕ → List ℕ} {n : ℕ} {wide narrow : List ℕ} {r : Constructed} → ConstructPost hashes n wide narrow r → ConstructAnswers hashes r
   -- finish::Finished: 0 and the body's length
   pub finish-values : (arena : List ℕ) (out wide narrow : ℕ)

@@ -17,7 +17,7 @@ zeros = replicate 30 0
 
 -- key A put with sequence 9 and a value of 8 bytes, as a new key into the empty builder
 abbrev pub FirstAdd : Added → List ℕ → Type 0
-FirstAdd r after = AddPost emptyBuilder zeros (65 ∷ []) Put 8 9 true r after
+FirstAdd r after = AddPost emptyBuilder zeros (record { key = 65 ∷ []; kind = Put; size = 8; sequence = 9; newKey = true }) r after
 
 -- the state after it
 abbrev pub firstState : PointBuilder

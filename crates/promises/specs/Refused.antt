@@ -3,18 +3,16 @@
 -- zeroed workspace; and where a cause is the first that holds, its number is given. A record for each call; `Demand1` says that all hold.
 use Prim.Native.Nat.{ℕ, suc, _+_, _<_, _≤_}
 use mathlib.Core.Path.{_≡_}
-use mathlib.Core.Bool.{Bool, true, false}
+use mathlib.Core.Bool.{true, false}
 use mathlib.Core.List.{List}
 use lib.ListN.{length, replicate}
 use Rattle.laws.specs.Refusals.{First}
 use Rattle.words.specs.Field.{AllBytes}
-use Rattle.records.specs.declared.Kind.{Kind}
 use Rattle.records.specs.declared.Limit.{Limit}
 use Rattle.builder.specs.declared.PointBuilder.{PointBuilder}
 use Rattle.builder.specs.declared.Added.{Added}
 use Rattle.builder.specs.declared.OffsetSet.{OffsetSet}
-use Rattle.builder.specs.State.{fits, lastOf, roomOf}
-use Rattle.builder.specs.Add.{addCauses, addedNumber, AddPost}
+use Rattle.builder.specs.Add.{Call, addCauses, addedNumber, AddPost}
 use Rattle.builder.specs.SetOffset.{setCauses, setNumber, SetPost}
 use Rattle.construct.specs.Keys.{attemptHashes}
 use Rattle.construct.specs.Promised.{AttemptFails}
@@ -35,10 +33,9 @@ use Rattle.lines.specs.Shown.{Rule}
 use Rattle.lines.specs.Listing.{textOf, listedNumber, Listing}
 
 -- add (1 to 6)
-pub record AddRefused (s : PointBuilder) (before key : List ℕ) (kind : Kind) (size sequence : ℕ) (newKey : Bool) (r : Added) (after : List ℕ) : Type 0 where
-  pub add-refused : (n : ℕ) → 0 < n → addedNumber r ≡ n
-      → First n (addCauses s (fits s before) (lastOf s before) (roomOf s before) key kind size sequence newKey) × (after ≡ before)
-  pub refused-add : (n : ℕ) → First n (addCauses s (fits s before) (lastOf s before) (roomOf s before) key kind size sequence newKey) → addedNumber r ≡ n
+pub record AddRefused (s : PointBuilder) (before : List ℕ) (call : Call) (r : Added) (after : List ℕ) : Type 0 where
+  pub add-refused : (n : ℕ) → 0 < n → addedNumber r ≡ n → First n (addCauses s before call) × (after ≡ before)
+  pub refused-add : (n : ℕ) → First n (addCauses s before call) → addedNumber r ≡ n
 
 -- set offset (1, 7)
 pub record SetRefused (s : PointBuilder) (before : List ℕ) (place : ℕ) (r : OffsetSet) (after : List ℕ) : Type 0 where
@@ -114,8 +111,7 @@ pub record ListingRefused (rule : Rule) (input before : List ℕ) (r : Listed) (
 
 -- DEMAND 1, of each public call below the C boundary (whose own refusals stand in `Boundary`)
 pub record Demand1 : Type 0 where
-  pub add : {s : PointBuilder} {before key : List ℕ} {kind : Kind} {size sequence : ℕ} {newKey : Bool} {r : Added} {after : List ℕ}
-      → AddPost s before key kind size sequence newKey r after → AddRefused s before key kind size sequence newKey r after
+  pub add : {s : PointBuilder} {before : List ℕ} {call : Call} {r : Added} {after : List ℕ} → AddPost s before call r after → AddRefused s before call r after
   pub set-offset : {s : PointBuilder} {before : List ℕ} {place offset : ℕ} {r : OffsetSet} {after : List ℕ}
       → SetPost s before place offset r after → SetRefused s before place r after
   pub finish : {arena out wide narrow : List ℕ} {r : Finished} {out' wide' narrow' : List ℕ}

@@ -3,13 +3,11 @@
 -- figure. No call that meets add's contract takes such a version, as a new key or as a continued one.
 use Prim.Native.Nat.{ℕ, _≤_, _<_}
 use mathlib.Core.Path.{_≡_}
-use mathlib.Core.Bool.{Bool}
 use mathlib.Core.List.{List}
 use lib.ListN.{length, take}
 use Rattle.laws.specs.Each.{Each}
 use Rattle.words.specs.Field.{AllBytes}
 use Rattle.numbers.specs.Limits.{mostKeys, mostValueBytes}
-use Rattle.records.specs.declared.Kind.{Kind}
 use Rattle.records.specs.declared.Kind.the-variants.{Tombstone}
 use Rattle.records.specs.declared.Record.{Record}
 use Rattle.records.specs.declared.DataLength.the-variants.{Untested}
@@ -17,7 +15,7 @@ use Rattle.records.specs.Model.{Entry, tableBytes, recordsOf}
 use Rattle.records.specs.Tables.{TableRules}
 use Rattle.builder.specs.declared.PointBuilder.{PointBuilder}
 use Rattle.builder.specs.declared.Added.{Added}
-use Rattle.builder.specs.Add.{addedNumber, AddPost}
+use Rattle.builder.specs.Add.{Call, addedNumber, AddPost}
 use Rattle.builder.specs.Taken.{ending, KeyBytes, TakenList, TakenInto}
 
 -- what a taken list keeps: the rules; its keys are bytes and at most 65,536; the used bytes are its arena, bytes too; the state counts its keys
@@ -42,16 +40,14 @@ pub record TakenLists : Type 0 where
 -- the error that started this project
 pub record NeverOldestFirst : Type 0 where
   -- of whichever key, a call adds a record to a taken list only where it is older than every record of that key in the list
-  pub added-older : {s : PointBuilder} {buffer : List ℕ} {list : List Entry} {key : List ℕ} {kind : Kind} {size sequence : ℕ} {newKey : Bool} {r : Added} {after : List ℕ}
-      → TakenList s buffer list → AddPost s buffer key kind size sequence newKey r after → addedNumber r ≡ 0 → Each (λ v. sequence < v .sequence) (recordsOf list key)
-  -- to a taken list whose last record is `last`, of this key, no call adds a record of this key whose sequence is not below that one's,
+  pub added-older : {s : PointBuilder} {buffer : List ℕ} {list : List Entry} {call : Call} {r : Added} {after : List ℕ}
+      → TakenList s buffer list → AddPost s buffer call r after → addedNumber r ≡ 0 → Each (λ v. call .sequence < v .sequence) (recordsOf list (call .key))
+  -- to a taken list whose last record is `last`, of the call's key, no call adds a record of this key whose sequence is not below that one's,
   -- whatever its kind and size, and the buffer stays as it was
-  pub never-oldest-first : {s : PointBuilder} {buffer : List ℕ} (front : List Entry) (key : List ℕ) (before : List Record) (last : Record)
-      {kind : Kind} {size sequence : ℕ} {newKey : Bool} {r : Added} {after : List ℕ}
-      → TakenList s buffer (ending front key before last) → last .sequence ≤ sequence
-      → AddPost s buffer key kind size sequence newKey r after → ((addedNumber r ≡ 0) → ⊥) × (after ≡ buffer)
+  pub never-oldest-first : {s : PointBuilder} {buffer : List ℕ} (front : List Entry) (before : List Record) (last : Record) {call : Call} {r : Added} {after : List ℕ}
+      → TakenList s buffer (ending front (call .key) before last) → last .sequence ≤ call .sequence
+      → AddPost s buffer call r after → ((addedNumber r ≡ 0) → ⊥) × (after ≡ buffer)
   -- where neither 2 nor 3 comes first, it is refused with 4
-  pub oldest-first-four : {s : PointBuilder} {buffer : List ℕ} (front : List Entry) (key : List ℕ) (before : List Record) (last : Record)
-      {kind : Kind} {size sequence : ℕ} {newKey : Bool} {r : Added} {after : List ℕ}
-      → TakenList s buffer (ending front key before last) → last .sequence ≤ sequence → size ≤ mostValueBytes → (kind ≡ Tombstone → size ≡ 0)
-      → AddPost s buffer key kind size sequence newKey r after → (addedNumber r ≡ 4) × (after ≡ buffer)
+  pub oldest-first-four : {s : PointBuilder} {buffer : List ℕ} (front : List Entry) (before : List Record) (last : Record) {call : Call} {r : Added} {after : List ℕ}
+      → TakenList s buffer (ending front (call .key) before last) → last .sequence ≤ call .sequence → call .size ≤ mostValueBytes → (call .kind ≡ Tombstone → call .size ≡ 0)
+      → AddPost s buffer call r after → (addedNumber r ≡ 4) × (after ≡ buffer)

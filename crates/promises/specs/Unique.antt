@@ -1,16 +1,14 @@
 -- Two results that meet a public call's contract coincide, every lent byte and word included: a sentence for each call, no exception.
 use Prim.Native.Nat.{ℕ}
 use mathlib.Core.Path.{_≡_}
-use mathlib.Core.Bool.{Bool}
 use mathlib.Core.List.{List}
 use Rattle.mixing.specs.Mixing.{mixOf, hashOf}
-use Rattle.records.specs.declared.Kind.{Kind}
 use Rattle.records.specs.declared.Limit.{Limit}
 use Rattle.builder.specs.declared.PointBuilder.{PointBuilder}
 use Rattle.builder.specs.declared.Added.{Added}
 use Rattle.builder.specs.declared.OffsetSet.{OffsetSet}
 use Rattle.builder.specs.State.{emptyBuilder}
-use Rattle.builder.specs.Add.{AddPost}
+use Rattle.builder.specs.Add.{Call, AddPost}
 use Rattle.builder.specs.SetOffset.{SetPost}
 use Rattle.finish.specs.declared.Finished.{Finished}
 use Rattle.finish.specs.Finish.{FinishPost}
@@ -42,8 +40,7 @@ pub record Unique : Type 0 where
   -- PointBuilder::empty: the state
   pub empty-unique : OneValue emptyBuilder
   -- PointBuilder::add: the answer with the next state, and the buffer
-  pub add-unique : {s : PointBuilder} {before key : List ℕ} {kind : Kind} {size sequence : ℕ} {newKey : Bool} {r q : Added} {after later : List ℕ}
-      → AddPost s before key kind size sequence newKey r after → AddPost s before key kind size sequence newKey q later → (r ≡ q) × (after ≡ later)
+  pub add-unique : {s : PointBuilder} {before : List ℕ} {call : Call} {r q : Added} {after later : List ℕ} → AddPost s before call r after → AddPost s before call q later → (r ≡ q) × (after ≡ later)
   -- PointBuilder::set_value_offset: the answer and the buffer
   pub set-unique : {s : PointBuilder} {before : List ℕ} {place offset : ℕ} {r q : OffsetSet} {after later : List ℕ}
       → SetPost s before place offset r after → SetPost s before place offset q later → (r ≡ q) × (after ≡ later)

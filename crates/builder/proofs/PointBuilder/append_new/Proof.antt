@@ -4,17 +4,17 @@ use mathlib.Core.Path.{_≡_}
 use native.Mathlib.Omega.{arith}
 use lib.ListN.{length}
 use borrow.Author.Needs.{needs}
-use Rattle.builder.specs.Add.{appended}
+use Rattle.builder.specs.Add.{newBuffer}
 use Rattle.builder.proofs.PartLaws.{entry-put}
 use Rattle.builder.proofs.PointBuilder.append_new.Statement.{statement}
 use Rattle.builder.proofs.PointBuilder.append_new.Tie as tie
 
 returns : tie.Need-returns
-unfolding appended
+unfolding newBuffer
 returns c =
     let s = c .before .before .before .before .before .before .before .before .before .before .before .before .before .before .before .before .before .before .before .args in
     let e : s .self .used + 8 + length (s .key .now) + 21 ≡ s .self .used + (29 + length (s .key .now)) = omega arith in
-    record { answer = rw e; buffer = cc (entry-put (s .buffer .now) (s .self .used) (s .key .now) (s .version) (omega arith)) }
+    record { answer = rw e; left = cc (entry-put (s .buffer .now) (s .self .used) (s .key .now) (s .version) (omega arith)) }
 
 pub append-new-spec : {M : Type 1} → statement M
 append-new-spec =

@@ -1,13 +1,13 @@
 -- `PointBuilder::append_version` raises the count and puts the version behind the used bytes. Assumes nothing.
 use mathlib.Core.Path.{refl}
 use borrow.Author.Needs.{needs}
-use Rattle.builder.specs.Add.{appended}
+use Rattle.builder.specs.Add.{continuedBuffer}
 use Rattle.builder.proofs.PointBuilder.append_version.Statement.{statement}
 use Rattle.builder.proofs.PointBuilder.append_version.Tie as tie
 
 returns : tie.Need-returns
-unfolding appended
-returns c = record { answer = refl; buffer = cc }
+unfolding continuedBuffer
+returns c = record { answer = refl; left = cc }
 
 pub append-version-spec : {M : Type 1} → statement M
 append-version-spec =

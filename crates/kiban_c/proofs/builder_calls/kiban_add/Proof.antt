@@ -52,11 +52,14 @@ pub kiban-add-spec : {M : Type 1} → statement M
 kiban-add-spec =
     tie.close
     (tie.spec
+    (λ c. search needs)
     returns
+    (λ c. search needs)
     returns-2
     (λ c κs. search needs)
     (λ c. search needs)
     enum-told
+    (λ c. search needs)
     returns-3
     (λ c κs. search needs)
     (λ c κs. search needs)

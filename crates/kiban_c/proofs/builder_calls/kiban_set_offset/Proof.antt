@@ -24,6 +24,7 @@ pub kiban-set-offset-spec : {M : Type 1} → statement M
 kiban-set-offset-spec =
     tie.close
     (tie.spec
+    (λ c. search needs)
     returns
     (λ c κs. search needs)
     (λ c κs. search needs)

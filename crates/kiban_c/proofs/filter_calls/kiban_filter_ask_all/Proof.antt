@@ -49,6 +49,7 @@ pub kiban-filter-ask-all-spec : {M : Type 1} → statement M
 kiban-filter-ask-all-spec =
     tie.close
     (tie.spec
+    (λ c. search needs)
     returns
     (λ c κs. search needs)
     enum-told
@@ -60,6 +61,7 @@ kiban-filter-ask-all-spec =
     part-ask-each-start
     (λ c. search needs)
     (λ c κs. search needs)
+    (λ c. search needs)
     (λ c. search needs)
     (λ c. search needs)
     returns-2

@@ -56,6 +56,7 @@ pub kiban-filter-build-spec : {M : Type 1} → statement M
 kiban-filter-build-spec =
     tie.close
     (tie.spec
+    (λ c. search needs)
     returns
     (λ c κs. search needs)
     enum-told

@@ -41,6 +41,7 @@ pub kiban-filter-read-spec : {M : Type 1} → statement M
 kiban-filter-read-spec =
     tie.close
     (tie.spec
+    (λ c. search needs)
     returns
     (λ c κs. search needs)
     enum-told
@@ -52,6 +53,7 @@ kiban-filter-read-spec =
     (λ c. search needs)
     (λ c. search needs)
     (λ c κs. search needs)
+    (λ c. search needs)
     (λ c. search needs)
     (λ c. search needs)
     returns-2

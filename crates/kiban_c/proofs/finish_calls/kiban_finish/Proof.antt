@@ -33,6 +33,7 @@ pub kiban-finish-spec : {M : Type 1} → statement M
 kiban-finish-spec =
     tie.close
     (tie.spec
+    (λ c. search needs)
     returns
     (λ c κs. search needs)
     (λ c. search needs)

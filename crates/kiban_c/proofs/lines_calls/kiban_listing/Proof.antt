@@ -28,6 +28,7 @@ pub kiban-listing-spec : {M : Type 1} → statement M
 kiban-listing-spec =
     tie.close
     (tie.spec
+    (λ c. search needs)
     returns
     (λ c κs. search needs)
     (λ c. search needs)

@@ -36,6 +36,7 @@ pub kiban-get-spec : {M : Type 1} → statement M
 kiban-get-spec =
     tie.close
     (tie.spec
+    (λ c. search needs)
     returns
     (λ c κs. search needs)
     (λ c κs. search needs)
