@@ -4,23 +4,24 @@ use Prim.Native.Nat.{ℕ, zero, suc, _+_, _<_, _≤_}
 use native.Mathlib.Omega.{arith}
 use mathlib.Core.Path.{_≡_, refl, ap, _∙_}
 use mathlib.Core.List.{List, [], _∷_}
-use mathlib.Core.Bool.{Bool, true, false, cond, true≢false}
+use mathlib.Core.Bool.{Bool, true, false, cond}
 use mathlib.Core.Logic.{_⊎_, inl, inr}
-use lib.Dec.{ltb, leb, eqb}
+use lib.Dec.{ltb, eqb}
 use lib.ListN.{length}
 use borrow.Author.Tests.{ltb-true, ltb-false, eqb-true, eqb-false, lt-ltb, le-ltb, eq-eqb}
 use Rattle.words.specs.Part.{sameAs}
 use Rattle.mixing.specs.Mixing.{hashOf, fingerprintOf}
 use Rattle.layout.specs.Layout.{seedIn, keysIn, arenaIn, headerRefusal, pilotOf, directPast, slotPlace, recordOffset, fingerprintLow}
 use Rattle.records.specs.declared.Limit.{Limit}
-use Rattle.records.specs.declared.Limit.the-variants.{None as Unlimited, UpTo}
 use Rattle.records.specs.declared.Record.{Record}
+use Rattle.records.specs.declared.VersionRead.the-variants.{At, Unread}
 use Rattle.records.specs.declared.Within.{Within}
 use Rattle.records.specs.declared.Within.the-variants as within
 use Rattle.records.specs.Model.{within as holds, kindByte}
 use Rattle.records.specs.Places.{keyAt, firstVersion, versionCount, sequenceAt, kindAt, recordAt}
 use Rattle.records.specs.Rules.{badKind}
-use Rattle.records.specs.Within.{firstWithin}
+use Rattle.records.specs.Cursor.{versionAt}
+use Rattle.records.specs.Within.{withinOr, firstWithin}
 use Rattle.point.specs.declared.Versions.{Versions}
 use Rattle.point.specs.declared.Located.{Located}
 use Rattle.point.specs.declared.Located.the-variants as located
@@ -28,7 +29,7 @@ use Rattle.point.specs.declared.Opened.{Opened}
 use Rattle.point.specs.declared.Opened.the-variants as opened
 use Rattle.point.specs.declared.Answer.{Answer}
 use Rattle.point.specs.declared.Answer.the-variants.{Found, Nothing, Refused}
-use Rattle.point.specs.Get.{locateHash, locateOf, openRecordOf, openAt, openOf, firstOfAll, firstFor, answerOf, getOf, locatedNumber, locatedValues, openedNumber, openedValues, answerNumber, answerValues}
+use Rattle.point.specs.Get.{locateHash, locateOf, openRecordOf, openAt, openOf, firstFor, answerOf, answerFrom, getOf, locatedNumber, locatedValues, openedNumber, openedValues, answerNumber, answerValues}
 use Rattle.point.specs.Table.{keySlot}
 use Rattle.point.specs.Causes.{Leads, RecordOpens, Opens, LocatingDamaged, RecordDamaged, OpeningDamaged, VersionDamaged, DamageMet}
 use Rattle.point.specs.Causes.LocatingDamaged.{header-damaged, pilot-damaged, start-outside}
@@ -290,57 +291,35 @@ unopened-values opened.Damaged h = refl
 
 -- ---- getting
 
--- a damaged version among those visited, without a limit and with one, both ways
-all-damaged : (body : List ℕ) (p k : ℕ) → firstOfAll body p k ≡ within.Damaged → VersionDamaged body Unlimited p k
-unfolding firstOfAll
-all-damaged body p zero e = absurd (let z : _≡_ {A = ℕ} 0 1 = cc in omega arith)
-all-damaged body p (suc k) e = go (ltb (length body) (p + 21)) (badKind (kindAt body p)) refl refl e
+-- a damaged version among those visited, both ways
+first-damaged : (body : List ℕ) (limit : Limit) (p k : ℕ) → firstWithin body limit p k ≡ within.Damaged → VersionDamaged body limit p k
+unfolding firstWithin versionAt recordAt
+first-damaged body limit p zero e = absurd (let z : _≡_ {A = ℕ} 0 1 = cc in omega arith)
+first-damaged body limit p (suc k) e = go (ltb (length body) (p + 21)) (badKind (kindAt body p)) refl refl (first-damaged body limit (p + 21) k) e
   where
+    behind : (c : Bool) → p + 21 ≤ length body → badKind (kindAt body p) ≡ false → holds limit (sequenceAt body p) ≡ c
+        → (firstWithin body limit (p + 21) k ≡ within.Damaged → VersionDamaged body limit (p + 21) k)
+        → cond c (within.Found (recordAt body p)) (firstWithin body limit (p + 21) k) ≡ within.Damaged → VersionDamaged body limit p (suc k)
+    behind true h q s rest f = absurd (let z : _≡_ {A = ℕ} 0 1 = cc in omega arith)
+    behind false h q s rest f = later h q s (rest f)
+
     go : (a b : Bool) → ltb (length body) (p + 21) ≡ a → badKind (kindAt body p) ≡ b
-        → cond a within.Damaged (cond b within.Damaged (within.Found (recordAt body p))) ≡ within.Damaged → VersionDamaged body Unlimited p (suc k)
-    go true b qa qb f = outside (ltb-true _ _ qa)
-    go false true qa qb f = bad-kind (ltb-false _ _ qa) qb
-    go false false qa qb f = absurd (let z : _≡_ {A = ℕ} 0 1 = cc in omega arith)
+        → (firstWithin body limit (p + 21) k ≡ within.Damaged → VersionDamaged body limit (p + 21) k)
+        → withinOr limit (cond a Unread (cond b Unread (At (recordAt body p)))) (firstWithin body limit (p + 21) k) ≡ within.Damaged → VersionDamaged body limit p (suc k)
+    go true b qa qb rest f = outside (ltb-true _ _ qa)
+    go false true qa qb rest f = bad-kind (ltb-false _ _ qa) qb
+    go false false qa qb rest f = behind (holds limit (sequenceAt body p)) (ltb-false _ _ qa) qb refl rest f
 
-damaged-all : (body : List ℕ) (p k : ℕ) → VersionDamaged body Unlimited p k → firstOfAll body p k ≡ within.Damaged
-unfolding firstOfAll holds
-damaged-all body p (suc k) (outside h) = rw (lt-ltb (length body) (p + 21) h)
-damaged-all body p (suc k) (bad-kind h q) = rw (le-ltb (length body) (p + 21) h, q)
-damaged-all body p (suc k) (later h q s v) = absurd (true≢false s)
-
-limit-damaged : (body : List ℕ) (l p k : ℕ) → firstWithin body l p k ≡ within.Damaged → VersionDamaged body (UpTo l) p k
-unfolding firstWithin holds
-limit-damaged body l p zero e = absurd (let z : _≡_ {A = ℕ} 0 1 = cc in omega arith)
-limit-damaged body l p (suc k) e =
-    go (ltb (length body) (p + 21)) (badKind (kindAt body p)) (leb (sequenceAt body p) l) refl refl refl (limit-damaged body l (p + 21) k) e
-  where
-    go : (a b c : Bool) → ltb (length body) (p + 21) ≡ a → badKind (kindAt body p) ≡ b → leb (sequenceAt body p) l ≡ c
-        → (firstWithin body l (p + 21) k ≡ within.Damaged → VersionDamaged body (UpTo l) (p + 21) k)
-        → cond a within.Damaged (cond b within.Damaged (cond c (within.Found (recordAt body p)) (firstWithin body l (p + 21) k))) ≡ within.Damaged
-        → VersionDamaged body (UpTo l) p (suc k)
-    go true b c qa qb qc rest f = outside (ltb-true _ _ qa)
-    go false true c qa qb qc rest f = bad-kind (ltb-false _ _ qa) qb
-    go false false true qa qb qc rest f = absurd (let z : _≡_ {A = ℕ} 0 1 = cc in omega arith)
-    go false false false qa qb qc rest f = later (ltb-false _ _ qa) qb qc (rest f)
-
-damaged-limit : (body : List ℕ) (l p k : ℕ) → VersionDamaged body (UpTo l) p k → firstWithin body l p k ≡ within.Damaged
-unfolding firstWithin holds
-damaged-limit body l p (suc k) (outside h) = rw (lt-ltb (length body) (p + 21) h)
-damaged-limit body l p (suc k) (bad-kind h q) = rw (le-ltb (length body) (p + 21) h, q)
-damaged-limit body l p (suc k) (later h q s v) = rw (le-ltb (length body) (p + 21) h, q, s) (damaged-limit body l (p + 21) k v)
+damaged-first : (body : List ℕ) (limit : Limit) (p k : ℕ) → VersionDamaged body limit p k → firstWithin body limit p k ≡ within.Damaged
+unfolding firstWithin versionAt recordAt
+damaged-first body limit p (suc k) (outside h) = rw (lt-ltb (length body) (p + 21) h)
+damaged-first body limit p (suc k) (bad-kind h q) = rw (le-ltb (length body) (p + 21) h, q)
+damaged-first body limit p (suc k) (later h q s v) = rw (le-ltb (length body) (p + 21) h, q, s) (damaged-first body limit (p + 21) k v)
 
 module _ (body : List ℕ) (size : ℕ) (key : List ℕ) (limit : Limit) where
-  versions-damaged : (v : Versions) → firstFor body (opened.Open v) limit ≡ within.Damaged → VersionDamaged body limit (v .first) (v .count)
-  unfolding firstFor
-  versions-damaged v e = go limit e
-    where
-      go : (m : Limit) → firstFor body (opened.Open v) m ≡ within.Damaged → VersionDamaged body m (v .first) (v .count)
-      go Unlimited f = all-damaged body (v .first) (v .count) f
-      go (UpTo l) f = limit-damaged body l (v .first) (v .count) f
-
   open-damaged : {o : Opened} → OpensTo body key o → firstFor body o limit ≡ within.Damaged → DamageMet body size key limit
   unfolding firstFor
-  open-damaged (opened-at p d) f = version-damaged p d (versions-damaged (here body p) f)
+  open-damaged (opened-at p d) f = version-damaged p d (first-damaged body limit (firstVersion body p) (versionCount body p) f)
   open-damaged opened-none f = absurd (let z : _≡_ {A = ℕ} 0 1 = cc in omega arith)
   open-damaged (opened-damaged d) f = opening-damaged d
 
@@ -358,25 +337,15 @@ module _ (body : List ℕ) (size : ℕ) (key : List ℕ) (limit : Limit) where
   unfolding getOf
   gets = gets-by (firstFor body (openOf body key) limit) refl
 
-  open-all : (p : ℕ) → VersionDamaged body Unlimited (firstVersion body p) (versionCount body p) → firstFor body (opened.Open (here body p)) Unlimited ≡ within.Damaged
-  unfolding firstFor
-  open-all p v = damaged-all body (firstVersion body p) (versionCount body p) v
-
-  open-limit : (p l : ℕ) → VersionDamaged body (UpTo l) (firstVersion body p) (versionCount body p) → firstFor body (opened.Open (here body p)) (UpTo l) ≡ within.Damaged
-  unfolding firstFor
-  open-limit p l v = damaged-limit body l (firstVersion body p) (versionCount body p) v
-
   unopened : OpeningDamaged body key → getOf body size key limit ≡ Refused 14
   unfolding getOf firstFor answerOf
   unopened d = rw (damage-opened body key d)
 
   version-refused : (p : ℕ) → Opens body key p → VersionDamaged body limit (firstVersion body p) (versionCount body p) → getOf body size key limit ≡ Refused 14
-  unfolding getOf answerOf
-  version-refused p o d = ap (λ (x : Opened). answerOf size (firstFor body x limit)) (opens-at body key p o) ∙ ap (answerOf size) (go limit d)
-    where
-      go : (m : Limit) → VersionDamaged body m (firstVersion body p) (versionCount body p) → firstFor body (opened.Open (here body p)) m ≡ within.Damaged
-      go Unlimited v = open-all p v
-      go (UpTo l) v = open-limit p l v
+  unfolding getOf firstFor answerOf
+  version-refused p o d =
+      ap (λ (x : Opened). answerFrom body size x limit) (opens-at body key p o)
+      ∙ ap (answerOf size) (damaged-first body limit (firstVersion body p) (versionCount body p) d)
 
   pub damage-gets : DamageMet body size key limit → getOf body size key limit ≡ Refused 14
   unfolding getOf

@@ -1,6 +1,6 @@
 -- What each test that get makes says of its answer, over the code's own values; a found record lies inside the data; none as a limit is
 -- the greatest sequence there is. Assumes nothing.
-use Prim.Native.Nat.{ℕ, zero, suc, _+_, _-_, _<_, _≤_}
+use Prim.Native.Nat.{ℕ, _+_, _-_, _<_, _≤_}
 use native.Mathlib.Nat.{add-sub-cancel-left}
 use native.Mathlib.Omega.{arith}
 use mathlib.Core.Path.{_≡_, refl, sym, ap, _∙_}
@@ -10,7 +10,6 @@ use lib.ListN.{length, take, drop}
 use lib.Dec.{ltb}
 use borrow.Author.Tests.{ltb-false, lt-ltb, le-ltb, le-leb, lt-leb, eq-eqb, ne-eqb}
 use Rattle.words.specs.Field.{le}
-use Rattle.words.proofs.Laws.{le-lt}
 use Rattle.words.specs.Field.{AllBytes}
 use Rattle.words.specs.Part.{sameAs}
 use Rattle.mixing.specs.Mixing.{hashOf, fingerprintOf}
@@ -24,9 +23,10 @@ use Rattle.records.specs.declared.Within.the-variants as within
 use Rattle.records.specs.declared.cursor.HeadRead.the-variants.{At, Outside}
 use Rattle.records.specs.Cursor.{headOf, headAt}
 use Rattle.records.specs.Model.{limitOf}
-use Rattle.records.specs.Places.{keyAt, firstVersion, versionCount, sequenceAt}
+use Rattle.records.specs.Places.{keyAt, firstVersion, versionCount}
 use Rattle.records.specs.Rules.{pastData}
 use Rattle.records.specs.Within.{firstWithin}
+use Rattle.records.proofs.WithinLaws.{first-limit}
 use Rattle.point.specs.declared.Versions.{Versions}
 use Rattle.point.specs.declared.Answer.{Answer}
 use Rattle.point.specs.declared.Answer.the-variants.{Found, Nothing, Refused}
@@ -34,7 +34,7 @@ use Rattle.point.specs.declared.Located.{Located}
 use Rattle.point.specs.declared.Located.the-variants as located
 use Rattle.point.specs.declared.Opened.{Opened}
 use Rattle.point.specs.declared.Opened.the-variants as opened
-use Rattle.point.specs.Get.{locateHash, locateOf, openRecordOf, openAt, openOf, firstOfAll, firstFor, answerOf, getOf, partOf, valueOf, startOf, ValuePost}
+use Rattle.point.specs.Get.{locateHash, locateOf, openRecordOf, openAt, openOf, firstFor, answerOf, answerFrom, getOf, partOf, valueOf, startOf, ValuePost}
 
 -- ---- the slot: n keys, pilot g, slot s, fingerprint f, u the 16 bits read, arena start a, offset o
 
@@ -103,30 +103,6 @@ pub open-is : (body key : List ℕ) (l : Located) → l ≡ locateOf body key �
 unfolding openOf
 open-is body key l e = rw (← e)
 
--- an opened key's first version is inside the body, or right behind it
-record-inside : (body key : List ℕ) (p : ℕ) (v : Versions) → openRecordOf body p key ≡ opened.Open v → v .first ≤ length body
-unfolding openRecordOf
-record-inside body key p v e = go (ltb (length body) (p + 8)) (ltb (length body) (firstVersion body p)) (sameAs (keyAt body p) key) refl e
-  where
-    here : Versions
-    here = record { first = firstVersion body p; count = versionCount body p }
-
-    go : (s t u : Bool) → ltb (length body) (firstVersion body p) ≡ t
-        → cond s opened.Damaged (cond t opened.Damaged (cond u (opened.Open here) opened.Nothing)) ≡ opened.Open v → v .first ≤ length body
-    go true t u q f = absurd (let z : _≡_ {A = ℕ} 0 1 = cc in omega arith)
-    go false true u q f = absurd (let z : _≡_ {A = ℕ} 0 1 = cc in omega arith)
-    go false false false q f = absurd (let z : _≡_ {A = ℕ} 0 1 = cc in omega arith)
-    go false false true q f = let w : here ≡ v = cc in rw (← w) (ltb-false (length body) (firstVersion body p) q)
-
-pub open-inside : (body key : List ℕ) (v : Versions) → openOf body key ≡ opened.Open v → v .first ≤ length body
-unfolding openOf
-open-inside body key v e = go (locateOf body key) e
-  where
-    go : (l : Located) → openAt body key l ≡ opened.Open v → v .first ≤ length body
-    go (located.At p) f = record-inside body key p v f
-    go located.Nothing f = absurd (let z : _≡_ {A = ℕ} 0 1 = cc in omega arith)
-    go located.Damaged f = absurd (let z : _≡_ {A = ℕ} 0 1 = cc in omega arith)
-
 -- ---- the answer
 
 module _ (size : ℕ) (w : Within) (r : Record) (isw : w ≡ within.Found r) (t : Bool) (ist : t ≡ pastData (Of size) (r .offset) (r .length)) where
@@ -146,32 +122,24 @@ pub answer-damaged : (size : ℕ) (w : Within) → w ≡ within.Damaged → answ
 unfolding answerOf
 answer-damaged size w e = rw e
 
-module _ (body key : List ℕ) (size most : ℕ) (o : Opened) (iso : o ≡ openOf body key) where
-  pub get-open : (v : Versions) (w : Within) → o ≡ opened.Open v → w ≡ firstWithin body most (v .first) (v .count)
-      → getOf body size key (UpTo most) ≡ answerOf size w
-  unfolding getOf firstFor
-  get-open v w e ew = rw (← iso, e, ← ew)
+module _ (body : List ℕ) (size : ℕ) (limit : Limit) (o : Opened) where
+  pub from-open : (v : Versions) (w : Within) → o ≡ opened.Open v → w ≡ firstWithin body limit (v .first) (v .count) → answerFrom body size o limit ≡ answerOf size w
+  unfolding firstFor
+  from-open v w e ew = rw (e, ← ew)
 
-  pub get-nothing : o ≡ opened.Nothing → getOf body size key (UpTo most) ≡ Nothing
-  unfolding getOf firstFor answerOf
-  get-nothing e = rw (← iso, e)
+  pub from-nothing : o ≡ opened.Nothing → answerFrom body size o limit ≡ Nothing
+  unfolding firstFor answerOf
+  from-nothing e = rw e
 
-  pub get-damaged : o ≡ opened.Damaged → getOf body size key (UpTo most) ≡ Refused 14
-  unfolding getOf firstFor answerOf
-  get-damaged e = rw (← iso, e)
+  pub from-damaged : o ≡ opened.Damaged → answerFrom body size o limit ≡ Refused 14
+  unfolding firstFor answerOf
+  from-damaged e = rw e
 
 -- ---- no limit
 
-first-unlimited : (body : List ℕ) (p k : ℕ) → AllBytes body → firstOfAll body p k ≡ firstWithin body (limitOf None) p k
-unfolding firstOfAll firstWithin
-first-unlimited body p zero b = refl
-first-unlimited body p (suc k) b =
-    let l : sequenceAt body p ≤ limitOf None = omega (arith, le-lt 8 body p b) in
-    rw (le-leb (sequenceAt body p) (limitOf None) l)
-
 opened-unlimited : (body : List ℕ) (o : Opened) → AllBytes body → firstFor body o None ≡ firstFor body o (UpTo (limitOf None))
 unfolding firstFor
-opened-unlimited body (opened.Open v) b = first-unlimited body (v .first) (v .count) b
+opened-unlimited body (opened.Open v) b = first-limit body None (v .first) (v .count) b
 opened-unlimited body opened.Nothing b = refl
 opened-unlimited body opened.Damaged b = refl
 
@@ -179,11 +147,6 @@ opened-unlimited body opened.Damaged b = refl
 pub none-is-greatest : (body : List ℕ) (size : ℕ) (key : List ℕ) → AllBytes body → getOf body size key None ≡ getOf body size key (UpTo (limitOf None))
 unfolding getOf
 none-is-greatest body size key b = ap (answerOf size) (opened-unlimited body (openOf body key) b)
-
-pub get-limit : (body : List ℕ) (size : ℕ) (key : List ℕ) (limit : Limit) (m : ℕ) → AllBytes body → m ≡ limitOf limit
-    → getOf body size key (UpTo m) ≡ getOf body size key limit
-get-limit body size key None m b e = ap (λ (n : ℕ). getOf body size key (UpTo n)) e ∙ sym (none-is-greatest body size key b)
-get-limit body size key (UpTo l) m b e = ap (λ (n : ℕ). getOf body size key (UpTo n)) e
 
 -- ---- the value
 

@@ -16,17 +16,19 @@ use Rattle.layout.specs.Layout.{keysIn, arenaIn, pilotOf, directPast, slotOf, s
 use Rattle.layout.proofs.HeaderLaws.{headed, slot-low}
 use Rattle.records.specs.declared.DataLength.the-variants.{Of}
 use Rattle.records.specs.declared.Record.{Record}
-use Rattle.records.specs.Model.{Entry, tableBytes}
+use Rattle.records.specs.Model.{Entry, tableBytes, Rises}
 use Rattle.records.specs.Places.{entriesFrom, entryPlace}
 use Rattle.records.specs.Tables.{RecordRules, EntryRules, InData, EntryInData}
 use Rattle.records.specs.Walk.{walkFrom}
 use Rattle.records.proofs.PassedLaws.{Passed, EnteredAt, place-up, place-apart, entries-count, passed-at, walk-passed, walk-ends, walk-whole}
-use Rattle.records.proofs.ReadLaws.{passed-bytes, passed-rules}
+use Rattle.records.proofs.ReadLaws.{passed-bytes, passed-rules, passed-rise}
+use Rattle.records.proofs.StandsLaws.{passed-stand}
 use Rattle.records.proofs.TableLaws.{table-fits}
 use Rattle.records.proofs.WriteLaws.{table-unique}
 use Rattle.point.specs.declared.Validated.the-variants.{Accepted}
 use Rattle.point.specs.Validate.{slotRefusal, validateOf}
 use Rattle.point.specs.Table.{tableOf, keyPlace, bodyKey, keySlot, HoldsTable, Belongs, OneBelow}
+use Rattle.point.specs.Inner.Stands.{TableStands}
 use Rattle.point.proofs.ValidateLaws.{passed, checked-near, slotted}
 
 -- ---- the table
@@ -47,6 +49,15 @@ module _ (body : List ℕ) (size : ℕ) (ok : validateOf body size ≡ Accepted)
 
   keys-end : entryPlace body (arenaIn body) (keysIn body) ≡ length body
   keys-end = sym (ap (entryPlace body (arenaIn body)) (walked .0)) ∙ sym (walk-ends (slotRefusal body) body (Of size) (arenaIn body) (arenaIn body) (keysIn body)) ∙ walked .1
+
+  -- its keys rise
+  pub accepted-rises : Rises (tableOf body)
+  unfolding tableOf
+  accepted-rises = passed-rise (arenaIn body) (arenaIn body) (keysIn body) keys-passed
+
+  -- THEOREM: the entries of an accepted body stand
+  pub accepted-stands : TableStands body
+  accepted-stands = let h = headed body (passed body size ok .checked .header) in record { long = h .long; arena = omega arith; all = passed-stand keys-passed }
 
   -- THEOREM: an accepted body holds its table
   pub holds-table : AllBytes body → HoldsTable body size (tableOf body)

@@ -16,7 +16,7 @@ use Rattle.records.specs.declared.DataLength.the-variants.{Of}
 use Rattle.records.specs.declared.Limit.{Limit}
 use Rattle.records.specs.declared.Record.{Record}
 use Rattle.records.specs.declared.Walked.{Walked}
-use Rattle.records.specs.Model.{Entry, tableBytes, limitOf, recordsOf, greatest, lookup}
+use Rattle.records.specs.Model.{Entry, tableBytes, recordsOf, greatest, lookup}
 use Rattle.records.specs.Places.{versionsFrom, entryPlace}
 use Rattle.records.specs.Tables.{RecordRules, TableRules}
 use Rattle.records.specs.Walk.{walkFrom}
@@ -35,7 +35,7 @@ use Rattle.point.specs.Validate.{pilotsRefusal, slotRefusal, arenaRefusa
 use Rattle.point.specs.Get.{locateOf, openRecordOf, openOf, answerOf, getOf, partOf, valueOf, startOf, ValuePost}
 use Rattle.point.specs.Lookup.{Newest, NoneWithin}
 use Rattle.point.specs.Table.{tableOf, keyPlace, bodyKey, keySlot, Belongs, answerTo}
-use Rattle.point.proofs.GetLaws.{get-open, get-nothing, get-limit}
+use Rattle.point.proofs.GetLaws.{from-open, from-nothing}
 use Rattle.point.proofs.ValidateLaws.{accepted, slot-right}
 use Rattle.point.proofs.SlotLaws.{key-entered, holds-table}
 use Rattle.point.proofs.LookupLaws.{lookup-some, lookup-none, lookup-finds, lookup-misses}
@@ -51,24 +51,20 @@ answer-inside size (some r) h = rw (h r refl .inside)
 
 module _ (body : List ℕ) (size : ℕ) (ok : validateOf body size ≡ Accepted) (all : AllBytes body) (key : List ℕ) (limit : Limit) where
   get-opened : KeyOpened body key → getOf body size key limit ≡ answerTo (lookup (tableOf body) key limit)
-  unfolding lookup
+  unfolding getOf lookup
   get-opened o =
       let v = versionsOf body (o .index) in
       let e = key-entered body size ok (o .index) (o .low) in
-      let s = search-greatest body (Of size) limit all (v .count) (v .first) (v .first) (e .rules .versions) in
+      let s = search-greatest body limit (Of size) (v .count) (v .first) (v .first) (e .rules .versions) in
       let u = versions-rules body (Of size) all (v .count) (v .first) (v .first) (e .rules .versions) in
-      sym (get-limit body size key limit (limitOf limit) all refl)
-      ∙ get-open body key size (limitOf limit) _ refl v _ (o .opening) refl
+      from-open body size limit _ v _ (o .opening) refl
       ∙ ap (answerOf size) s
       ∙ answer-inside size (greatest limit (versionsFrom body (v .first) (v .count))) (λ r. greatest-has {P = RecordRules (Of size)} limit (versionsFrom body (v .first) (v .count)) r u)
       ∙ ap (λ (rs : List Record). answerTo (greatest limit rs)) (sym (o .records))
 
   get-missing : KeyMissing body key → getOf body size key limit ≡ answerTo (lookup (tableOf body) key limit)
-  unfolding lookup greatest
-  get-missing m =
-      sym (get-limit body size key limit (limitOf limit) all refl)
-      ∙ get-nothing body key size (limitOf limit) _ refl (m .opening)
-      ∙ ap (λ (rs : List Record). answerTo (greatest limit rs)) (sym (m .records))
+  unfolding getOf lookup greatest
+  get-missing m = from-nothing body size limit _ (m .opening) ∙ ap (λ (rs : List Record). answerTo (greatest limit rs)) (sym (m .records))
 
   -- THEOREM: get is the lookup in the body's table
   pub get-is-lookup : getOf body size key limit ≡ answerTo (lookup (tableOf body) key limit)

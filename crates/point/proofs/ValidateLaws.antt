@@ -19,7 +19,8 @@ use Rattle.records.specs.Places.{keyAt, nextEntry}
 use Rattle.records.specs.Walk.{walkFrom}
 use Rattle.records.proofs.RuleLaws.{Entered}
 use Rattle.point.specs.declared.Validated.the-variants.{Accepted, Refused}
-use Rattle.point.specs.Validate.{pilotsRefusal, slotTest, slotRefusal, arenaRefusal, validationRefusal, verdict, validateOf, Checked, Stepping}
+use Rattle.point.specs.Validate.{pilotsRefusal, slotTest, slotRefusal, arenaRefusal, validationRefusal, verdict, validateOf, Checked}
+use Rattle.point.specs.Inner.Walking.{Stepping}
 
 -- ---- 22, a pilot at a time
 

@@ -1,5 +1,5 @@
 -- Get in document 01's order (document 01, "Get"). Each `Damaged` here is a cause of 14, by its comment.
-use Prim.Native.Nat.{ℕ, zero, suc, _+_}
+use Prim.Native.Nat.{ℕ, _+_}
 use mathlib.Core.List.{List, [], _∷_}
 use mathlib.Core.Bool.{cond}
 use mathlib.Core.Path.{_≡_}
@@ -9,12 +9,10 @@ use Rattle.words.specs.Part.{sameAs}
 use Rattle.mixing.specs.Mixing.{hashOf, fingerprintOf}
 use Rattle.layout.specs.Layout.{headerRefusal, seedIn, keysIn, arenaIn, pilotOf, directPast, slotOf, slotPlace, recordOffset, fingerprintLow}
 use Rattle.records.specs.declared.Limit.{Limit}
-use Rattle.records.specs.declared.Limit.the-variants.{None, UpTo}
 use Rattle.records.specs.declared.Within.{Within}
 use Rattle.records.specs.declared.Within.the-variants as within
 use Rattle.records.specs.Model.{kindByte}
-use Rattle.records.specs.Places.{keyAt, firstVersion, versionCount, kindAt, recordAt}
-use Rattle.records.specs.Rules.{badKind}
+use Rattle.records.specs.Places.{keyAt, firstVersion, versionCount}
 use Rattle.records.specs.Within.{firstWithin}
 use Rattle.point.specs.declared.Located.{Located}
 use Rattle.point.specs.declared.Located.the-variants as located
@@ -55,18 +53,11 @@ openAt body key located.Damaged = opened.Damaged
 unfoldable pub openOf : List ℕ → List ℕ → Opened
 openOf body key = openAt body key (locateOf body key)
 
--- the first of k versions from p on, whatever its sequence: 14 outside the body, 14 of bad kind
-unfoldable pub firstOfAll : List ℕ → ℕ → ℕ → Within
-firstOfAll body p zero = within.Nothing
-firstOfAll body p (suc k) =
-    cond (ltb (length body) (p + 21)) within.Damaged (cond (badKind (kindAt body p)) within.Damaged (within.Found (recordAt body p)))
-
--- the first version within the limit
+-- the first version within the limit: 14 one visited outside the body, 14 one of bad kind
 unfoldable pub firstFor : List ℕ → Opened → Limit → Within
 firstFor body opened.Nothing limit = within.Nothing
 firstFor body opened.Damaged limit = within.Damaged
-firstFor body (opened.Open v) None = firstOfAll body (v .first) (v .count)
-firstFor body (opened.Open v) (UpTo l) = firstWithin body l (v .first) (v .count)
+firstFor body (opened.Open v) limit = firstWithin body limit (v .first) (v .count)
 
 -- the answer: 14 if offset + length passes the data
 unfoldable pub answerOf : ℕ → Within → Answer
@@ -74,9 +65,13 @@ answerOf size (within.Found r) = cond (ltb size (r .offset + r .length)) (Refuse
 answerOf size within.Nothing = Nothing
 answerOf size within.Damaged = Refused 14
 
--- the answer to a key under a limit, with data of this size
+-- the answer to an opening under a limit, with data of this size
+abbrev pub answerFrom : List ℕ → (size : ℕ) → Opened → Limit → Answer
+answerFrom body size o limit = answerOf size (firstFor body o limit)
+
+-- and to a key
 unfoldable pub getOf : List ℕ → (size : ℕ) → List ℕ → Limit → Answer
-getOf body size key limit = answerOf size (firstFor body (openOf body key) limit)
+getOf body size key limit = answerFrom body size (openOf body key) limit
 
 -- that part of the lent data, or the data's first zero bytes if no record is found
 unfoldable pub partOf : List ℕ → Answer → List ℕ

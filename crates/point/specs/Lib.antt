@@ -3,3 +3,4 @@ pub mod Get
 pub mod Table
 pub mod Causes
 pub mod Lookup
+pub mod Inner

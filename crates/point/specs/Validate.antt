@@ -1,16 +1,14 @@
 -- Validation in document 01's order (document 01, "Validation").
-use Prim.Native.Nat.{ℕ, zero, suc, _-_, _≤_}
+use Prim.Native.Nat.{ℕ, zero, suc, _-_}
 use mathlib.Core.Path.{_≡_}
 use mathlib.Core.List.{List, [], _∷_}
 use mathlib.Core.Bool.{not, cond}
 use lib.Dec.{eqb}
-use lib.ListN.{length}
 use Rattle.laws.specs.Refusals.{Cause, cause, firstOf, orElse}
 use Rattle.mixing.specs.Mixing.{hashOf, fingerprintOf}
 use Rattle.layout.specs.Layout.{headerRefusal, seedIn, keysIn, bucketsIn, arenaIn, pilotAt, directPast, slotOf, slotPlace, recordOffset, fingerprintWide}
 use Rattle.records.specs.declared.DataLength.the-variants.{Of}
-use Rattle.records.specs.Needs.{Walking}
-use Rattle.records.specs.Places.{keyAt, firstVersion}
+use Rattle.records.specs.Places.{keyAt}
 use Rattle.records.specs.Walk.{walkFrom}
 use Rattle.point.specs.declared.Validated.{Validated}
 use Rattle.point.specs.declared.Validated.the-variants.{Accepted, Refused}
@@ -60,15 +58,3 @@ refusalNumber (Refused n) = n
 pub record Checked (body : List ℕ) : Type 0 where
   pub header : headerRefusal body ≡ 0
   pub pilots : pilotsRefusal body (keysIn body) 0 (bucketsIn body) ≡ 0
-
--- and the key at p stands in the arena
-pub record Reached (body : List ℕ) (p : ℕ) : Type 0 where
-  pub checked : Checked body
-  pub here : arenaIn body ≤ p
-  pub whole : firstVersion body p ≤ length body
-
--- and a walk over the arena has come to p, from the entry at prev
-pub record Stepping (body : List ℕ) (prev p : ℕ) : Type 0 where
-  pub checked : Checked body
-  pub here : arenaIn body ≤ p
-  pub walking : Walking body prev p

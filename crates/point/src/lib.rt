@@ -8,6 +8,7 @@ use layout::seed_in;
 use layout::slot_at;
 use mixing::slot::Pilot;
 use mixing::slot::slot_by;
+use numbers::Refusal;
 use records::DataLength;
 use records::Limit;
 use records::Record;
@@ -23,10 +24,10 @@ ghost use Prim.Native.Nat.{_+_, _≤_};
 ghost use lib.ListN.{length};
 ghost use denote.Ref.{ptr};
 ghost use Rattle.layout.specs.Layout.{headerRefusal, keysIn, bucketsIn, arenaIn, pilotOf, directPast, slotOf, slotPlace};
-ghost use Rattle.point.specs.Validate.{pilotsRefusal, slotTest, slotRefusal, arenaRefusal, validationRefusal, validateOf, Checked, Reached, Stepping};
-ghost use Rattle.point.specs.Get.{locateHash, locateOf, openRecordOf, openOf, answerOf, getOf, ValuePost};
+ghost use Rattle.point.specs.Validate.{pilotsRefusal, slotTest, slotRefusal, arenaRefusal, validationRefusal, validateOf, Checked};
+ghost use Rattle.point.specs.Inner.Walking.{Reached, Stepping};
+ghost use Rattle.point.specs.Get.{locateHash, locateOf, openRecordOf, openOf, answerOf, answerFrom, getOf, ValuePost};
 ghost use Rattle.records.specs.declared.DataLength.the-variants.{Of};
-ghost use Rattle.records.specs.declared.Limit.the-variants.{UpTo};
 ghost use Rattle.records.specs.Rules.{entryRefusal};
 
 // What validation says of a body.
@@ -60,11 +61,6 @@ pub enum Answer {
     Found(Record),
     Nothing,
     Refused(u8),
-}
-
-impl Answer {
-    // The refusal of a lookup that meets damage.
-    pub const DAMAGE: u8 = 14;
 }
 
 // The pilot of a hash's bucket.
@@ -165,7 +161,7 @@ fn pilots_refusal(body: &[u8]) -> u8
     let mut i = 0;
     while i < b {
         if direct_past(n, field::u32_at(body, Header::BYTES + Header::PILOT * i)) {
-            return 22;
+            return Refusal::PILOT;
         }
         i += 1;
     }
@@ -179,10 +175,10 @@ fn slot_test(body: &[u8], h: u64, p: usize) -> u8
 {
     let s = slot_of(body, h);
     if field::u64_at(body, s) != p as u64 - arena_in(body) {
-        return 26;
+        return Refusal::SLOT;
     }
     if field::u32_at(body, s + 8) != mixing::fingerprint(h) as u32 {
-        return 26;
+        return Refusal::SLOT;
     }
     0
 }
@@ -233,7 +229,7 @@ fn arena_refusal(body: &[u8], data_length: u64) -> u8
     if p == body.len() {
         return 0;
     }
-    30
+    Refusal::LEFT_OVER
 }
 
 // The number of the first rule that the body breaks, or 0.
@@ -269,28 +265,27 @@ fn answered(found: Within, data_length: u64) -> Answer
     match found {
         Within::Found(r) => {
             if records::rules::past_data(DataLength::Of(data_length), r.offset, r.length) {
-                return Answer::Refused(Answer::DAMAGE);
+                return Answer::Refused(Refusal::DAMAGE);
             }
             Answer::Found(r)
         }
         Within::Nothing => Answer::Nothing,
-        Within::Damaged => Answer::Refused(Answer::DAMAGE),
+        Within::Damaged => Answer::Refused(Refusal::DAMAGE),
     }
 }
 
-// The key's record up to a sequence, with data of a length.
-fn get_up_to(body: &[u8], data_length: u64, key: &[u8], most: u64) -> Answer
-    ensures { λ r. ⌜ r ≡ getOf (now (body .entry)) data_length (now (key .entry)) (UpTo most) ⌝ }
+// The answer to an opening under a limit, with data of a length.
+fn answer_from(body: &[u8], data_length: u64, opened: Opened, limit: Limit) -> Answer
+    ensures { λ r. ⌜ r ≡ answerFrom (now (body .entry)) data_length opened limit ⌝ }
 {
-    let o = open(body, key);
-    match o {
+    match opened {
         Opened::Open(v) => {
             let first = v.first;
-            let found = records::search::first_within(body, most, first, v.count);
+            let found = records::search::first_within(body, limit, first, v.count);
             answered(found, data_length)
         }
         Opened::Nothing => Answer::Nothing,
-        Opened::Damaged => Answer::Refused(Answer::DAMAGE),
+        Opened::Damaged => Answer::Refused(Refusal::DAMAGE),
     }
 }
 
@@ -298,7 +293,8 @@ fn get_up_to(body: &[u8], data_length: u64, key: &[u8], most: u64) -> Answer
 pub fn get<'b, 'd, 'k>(body: &'b [u8], data: &'d [u8], key: &'k [u8], limit: Limit) -> Answer
     ensures { λ r. ⌜ r ≡ getOf (now (body .entry)) (length (now («data» .entry))) (now (key .entry)) limit ⌝ }
 {
-    get_up_to(body, data.len() as u64, key, limit.number())
+    let opened = open(body, key);
+    answer_from(body, data.len() as u64, opened, limit)
 }
 
 // The value of what get finds, as that part of the lent data; or the data's first zero bytes.

@@ -6,6 +6,7 @@ pub mod CauseLaws
 pub mod SearchLaws
 pub mod WalkLaws
 pub mod PassedLaws
+pub mod StandsLaws
 pub mod TableLaws
 pub mod ReadLaws
 pub mod WriteLaws

@@ -1,6 +1,6 @@
--- Laws of the model: the rest of versions that fall and of keys that rise, a key's records among rising keys, what is less, what the
--- greatest record within a limit has, and that a record or none is no damage. Assumes nothing.
-use mathlib.Core.Path.{_≡_, refl, ap, _∙_}
+-- Laws of the model: the rest of versions that fall and of keys that rise, a key's records and lookups among rising keys, what is less, what
+-- the greatest record within a limit has, and what a record that was found, or none, says. Assumes nothing.
+use mathlib.Core.Path.{_≡_, refl, sym, ap, _∙_}
 use mathlib.Core.Bool.{Bool, true, false, cond, _&&_}
 use mathlib.Core.List.{List, [], _∷_, append-nil, List·Memᴰ}
 use mathlib.Core.List.List·Memᴰ.{List·Memᴰ·head, List·Memᴰ·tail}
@@ -16,8 +16,8 @@ use Rattle.words.specs.Part.{orderOf}
 use Rattle.words.proofs.Ordered.{same-self, order-apart, order-trans}
 use Rattle.records.specs.declared.Record.{Record}
 use Rattle.records.specs.declared.Limit.{Limit}
-use Rattle.records.specs.declared.Within.the-variants.{Damaged}
-use Rattle.records.specs.Model.{Entry, within, recordsOf, better, greatest, Falls, Rises}
+use Rattle.records.specs.declared.Within.the-variants.{Found, Nothing, Damaged}
+use Rattle.records.specs.Model.{Entry, within, recordsOf, better, greatest, recordWithin, lookup, Falls, Rises}
 use Rattle.records.specs.Model.Falls.{falls-none, falls-more}
 use Rattle.records.specs.Model.Rises.{rises-none, rises-more}
 use Rattle.records.specs.Rules.{isLess}
@@ -53,10 +53,24 @@ unfolding recordsOf
 own-records (x ∷ xs) e g (List·Memᴰ·head q) = rw (q, same-self (x .key), records-behind x xs g) (append-nil (x .versions))
 own-records (x ∷ xs) e g (List·Memᴰ·tail m) = rw (order-apart (x .key) (e .key) (rises-below x xs e g m) .0) (own-records xs e (rises-rest x xs g) m)
 
+-- so its record within a limit is its key's lookup
+pub own-lookup : (t : List Entry) (e : Entry) (limit : Limit) → Rises t → List·Memᴰ e t → recordWithin limit e ≡ lookup t (e .key) limit
+unfolding lookup
+own-lookup t e limit g m = ap (greatest limit) (sym (own-records t e g m))
+
 pub less-is : (o : Order) → isLess o ≡ true → o ≡ Less
 less-is Less e = refl
 less-is Equal e = cc
 less-is Greater e = cc
+
+-- what was found
+pub found-some : (o : Option Record) (r : Record) → foundOf o ≡ Found r → o ≡ some r
+found-some none r e = absurd (let z : _≡_ {A = ℕ} 0 1 = cc in omega arith)
+found-some (some s) r e = cc
+
+pub found-none : (o : Option Record) → foundOf o ≡ Nothing → o ≡ none
+found-none none e = refl
+found-none (some s) e = absurd (let z : _≡_ {A = ℕ} 0 1 = cc in omega arith)
 
 pub found-whole : (o : Option Record) → foundOf o ≡ Damaged → ⊥
 found-whole none e = let z : _≡_ {A = ℕ} 0 1 = cc in omega arith

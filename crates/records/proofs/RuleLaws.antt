@@ -13,6 +13,7 @@ use Rattle.laws.proofs.RefusalLaws.{first-given, first-only, none-given, none-o
 use Rattle.laws.specs.Refusals.None.{none-here, none-more}
 use Rattle.laws.specs.Refusals.Numbered.{numbered-none, numbered-more}
 use Rattle.laws.proofs.RefusalLaws.{orElse-stop, orElse-zero}
+use Rattle.numbers.specs.Limits.{mostKeyBytes, mostValueBytes}
 use Rattle.words.specs.declared.part.Order.{Order}
 use Rattle.words.specs.Part.{orderOf}
 use Rattle.records.specs.declared.DataLength.{DataLength}
@@ -39,25 +40,25 @@ module _ (bytes : List ℕ) (prev p : ℕ) where
   key-short h = rw (lt-ltb (length bytes) (p + 8) h)
 
   module _ (head : p + 8 ≤ length bytes) where
-    pub key-long : 1048576 < keyLength bytes p → 24 ≡ keyRefusal bytes prev p
+    pub key-long : mostKeyBytes < keyLength bytes p → 24 ≡ keyRefusal bytes prev p
     unfolding keyRefusal
-    key-long h = rw (le-ltb (length bytes) (p + 8) head, lt-ltb 1048576 (keyLength bytes p) h)
+    key-long h = rw (le-ltb (length bytes) (p + 8) head, lt-ltb mostKeyBytes (keyLength bytes p) h)
 
-    module _ (small : keyLength bytes p ≤ 1048576) where
+    module _ (small : keyLength bytes p ≤ mostKeyBytes) where
       pub key-out : length bytes < firstVersion bytes p → 24 ≡ keyRefusal bytes prev p
       unfolding keyRefusal
-      key-out h = rw (le-ltb (length bytes) (p + 8) head, le-ltb 1048576 (keyLength bytes p) small, lt-ltb (length bytes) (firstVersion bytes p) h)
+      key-out h = rw (le-ltb (length bytes) (p + 8) head, le-ltb mostKeyBytes (keyLength bytes p) small, lt-ltb (length bytes) (firstVersion bytes p) h)
 
       module _ (whole : firstVersion bytes p ≤ length bytes) where
         pub key-none : versionCount bytes p ≡ 0 → 24 ≡ keyRefusal bytes prev p
         unfolding keyRefusal
         key-none e =
-            rw (le-ltb (length bytes) (p + 8) head, le-ltb 1048576 (keyLength bytes p) small, le-ltb (length bytes) (firstVersion bytes p) whole, eq-eqb (versionCount bytes p) 0 e)
+            rw (le-ltb (length bytes) (p + 8) head, le-ltb mostKeyBytes (keyLength bytes p) small, le-ltb (length bytes) (firstVersion bytes p) whole, eq-eqb (versionCount bytes p) 0 e)
 
         pub key-falls : (versionCount bytes p ≡ 0 → ⊥) → keyRises bytes prev p ≡ false → 25 ≡ keyRefusal bytes prev p
         unfolding keyRefusal
         key-falls n e =
-            rw (le-ltb (length bytes) (p + 8) head, le-ltb 1048576 (keyLength bytes p) small, le-ltb (length bytes) (firstVersion bytes p) whole, ne-eqb (versionCount bytes p) 0 n, e)
+            rw (le-ltb (length bytes) (p + 8) head, le-ltb mostKeyBytes (keyLength bytes p) small, le-ltb (length bytes) (firstVersion bytes p) whole, ne-eqb (versionCount bytes p) 0 n, e)
 
   -- a number is given exactly where its cause is the first that holds
   pub key-exact : (n : ℕ) → 0 < n → keyRefusal bytes prev p ≡ n → First n (keyCauses bytes prev p)
@@ -75,7 +76,7 @@ module _ (bytes : List ℕ) (prev p : ℕ) where
 -- what the rules of a key say of the one at p
 pub record Keyed (bytes : List ℕ) (prev p : ℕ) : Type 0 where
   pub head : p + 8 ≤ length bytes
-  pub small : keyLength bytes p ≤ 1048576
+  pub small : keyLength bytes p ≤ mostKeyBytes
   pub whole : firstVersion bytes p ≤ length bytes
   pub some : versionCount bytes p ≡ 0 → ⊥
   pub rising : keyRises bytes prev p ≡ true
@@ -94,7 +95,7 @@ module _ (bytes : List ℕ) (prev p : ℕ) where
   key-passes k =
       none-given
       (none-more (le-ltb (length bytes) (p + 8) (k .head))
-      (none-more (le-ltb 1048576 (keyLength bytes p) (k .small))
+      (none-more (le-ltb mostKeyBytes (keyLength bytes p) (k .small))
       (none-more (le-ltb (length bytes) (firstVersion bytes p) (k .whole))
       (none-more (ne-eqb (versionCount bytes p) 0 (k .some)) (none-more (ap not (k .rising)) none-here)))))
 
@@ -111,24 +112,24 @@ module _ (bytes : List ℕ) (test : DataLength) (prev p : ℕ) where
     version-kind b = rw (le-ltb (length bytes) (p + 21) fits, b)
 
     module _ (known : badKind (kindAt bytes p) ≡ false) where
-      pub version-long : 16777216 < lengthAt bytes p → 29 ≡ versionRefusal bytes test prev p
+      pub version-long : mostValueBytes < lengthAt bytes p → 29 ≡ versionRefusal bytes test prev p
       unfolding versionRefusal
-      version-long h = rw (le-ltb (length bytes) (p + 21) fits, known, lt-ltb 16777216 (lengthAt bytes p) h)
+      version-long h = rw (le-ltb (length bytes) (p + 21) fits, known, lt-ltb mostValueBytes (lengthAt bytes p) h)
 
-      module _ (small : lengthAt bytes p ≤ 16777216) (size offset : ℕ) (is : size ≡ lengthAt bytes p) (iso : offset ≡ offsetAt bytes p) where
+      module _ (small : lengthAt bytes p ≤ mostValueBytes) (size offset : ℕ) (is : size ≡ lengthAt bytes p) (iso : offset ≡ offsetAt bytes p) where
         pub version-out : pastData test offset size ≡ true → 29 ≡ versionRefusal bytes test prev p
         unfolding versionRefusal
-        version-out e = rw (le-ltb (length bytes) (p + 21) fits, known, le-ltb 16777216 (lengthAt bytes p) small, ← is, ← iso, e)
+        version-out e = rw (le-ltb (length bytes) (p + 21) fits, known, le-ltb mostValueBytes (lengthAt bytes p) small, ← is, ← iso, e)
 
         module _ (inside : pastData test offset size ≡ false) where
           pub version-full : fullTombstone (kindAt bytes p) size ≡ true → 29 ≡ versionRefusal bytes test prev p
           unfolding versionRefusal
-          version-full e = rw (le-ltb (length bytes) (p + 21) fits, known, le-ltb 16777216 (lengthAt bytes p) small, ← is, ← iso, inside, e)
+          version-full e = rw (le-ltb (length bytes) (p + 21) fits, known, le-ltb mostValueBytes (lengthAt bytes p) small, ← is, ← iso, inside, e)
 
           pub version-falls : (b : Bool) → fullTombstone (kindAt bytes p) size ≡ false → sequenceFalls bytes prev p ≡ b → cond b 0 29 ≡ versionRefusal bytes test prev p
           unfolding versionRefusal
           version-falls b e f =
-              rw (le-ltb (length bytes) (p + 21) fits, known, le-ltb 16777216 (lengthAt bytes p) small, ← is, ← iso, inside, e, f) (not-cond b)
+              rw (le-ltb (length bytes) (p + 21) fits, known, le-ltb mostValueBytes (lengthAt bytes p) small, ← is, ← iso, inside, e, f) (not-cond b)
 
   -- a number is given exactly where its cause is the first that holds
   pub version-exact : (n : ℕ) → 0 < n → versionRefusal bytes test prev p ≡ n → First n (versionCauses bytes test prev p)
@@ -147,7 +148,7 @@ module _ (bytes : List ℕ) (test : DataLength) (prev p : ℕ) where
 pub record Versioned (bytes : List ℕ) (test : DataLength) (prev p : ℕ) : Type 0 where
   pub fits : p + 21 ≤ length bytes
   pub kind : badKind (kindAt bytes p) ≡ false
-  pub small : lengthAt bytes p ≤ 16777216
+  pub small : lengthAt bytes p ≤ mostValueBytes
   pub inside : pastData test (offsetAt bytes p) (lengthAt bytes p) ≡ false
   pub empty : fullTombstone (kindAt bytes p) (lengthAt bytes p) ≡ false
   pub falling : sequenceFalls bytes prev p ≡ true
@@ -167,7 +168,7 @@ module _ (bytes : List ℕ) (test : DataLength) (prev p : ℕ) where
       none-given
       (none-more (le-ltb (length bytes) (p + 21) (v .fits))
       (none-more (v .kind)
-      (none-more (le-ltb 16777216 (lengthAt bytes p) (v .small))
+      (none-more (le-ltb mostValueBytes (lengthAt bytes p) (v .small))
       (none-more (v .inside) (none-more (v .empty) (none-more (ap not (v .falling)) none-here))))))
 
   -- ---- the versions, one at a time

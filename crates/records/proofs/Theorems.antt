@@ -11,28 +11,19 @@ use lib.Dec.{eqb}
 use borrow.Author.Tests.{eq-eqb}
 use Rattle.laws.specs.Each.{Each}
 use Rattle.laws.specs.Each.Each.{each-none, each-more}
+use Rattle.numbers.specs.Limits.{mostKeyBytes, mostVersions}
 use Rattle.words.specs.Field.{AllBytes}
 use Rattle.records.specs.declared.DataLength.{DataLength}
-use Rattle.records.specs.declared.Walked.{Walked}
 use Rattle.records.specs.Model.{Entry, tableBytes}
 use Rattle.records.specs.Places.{entriesFrom, entryPlace}
 use Rattle.records.specs.Rules.{unslotted}
-use Rattle.records.specs.Tables.{TableFits, EntryRules, TableRules}
+use Rattle.records.specs.Tables.{EntryRules, TableRules, Walks}
 use Rattle.records.specs.Walk.{walkFrom}
 use Rattle.records.proofs.TableLaws.{table-fits}
 use Rattle.records.proofs.PassedLaws.{Passed, entries-count, passed-end, walk-passed, walk-ends, passed-walk, passed-whole}
 use Rattle.records.proofs.ReadLaws.{passed-bytes, passed-rules}
 use Rattle.records.proofs.WriteLaws.{entry-size, back-end, table-unique}
 use Rattle.records.proofs.AcceptLaws.{table-passes}
-
--- what a walk that started at p has read: the table of as many entries as keys passed
-pub record Walks (test : DataLength) (bytes : List ℕ) (p : ℕ) (w : Walked) : Type 0 where
-  pub count : length (entriesFrom bytes p (w .keys)) ≡ w .keys
-  pub place : w .end ≡ entryPlace bytes p (w .keys)
-  pub inside : w .end ≤ length bytes
-  pub bytes-are : take (w .end - p) (drop p bytes) ≡ tableBytes (entriesFrom bytes p (w .keys))
-  pub rules : TableRules test (entriesFrom bytes p (w .keys))
-  pub only : (t : List Entry) → TableFits t → tableBytes t ≡ take (w .end - p) (drop p bytes) → t ≡ entriesFrom bytes p (w .keys)
 
 -- THEOREM: the bytes that a walk has passed are those of exactly one table, which keeps the rules: keys rise strictly, sequences fall strictly
 pub read-back : (slots : ℕ → ℕ) (bytes : List ℕ) (test : DataLength) (prev p k : ℕ) → AllBytes bytes → p ≤ length bytes → Walks test bytes p (walkFrom slots bytes test prev p k)
@@ -96,7 +87,7 @@ table-few [] = omega arith
 table-few (e ∷ es) = rw length-append (omega (arith, entry-size e, table-few es))
 
 -- entries that keep the rules have at most 8 + 1,048,576 + 21 × 4,294,967,295 bytes each
-pub table-most : (test : DataLength) (t : List Entry) → Each (EntryRules test) t → length (tableBytes t) ≤ length t * (8 + 1048576 + 21 * 4294967295)
+pub table-most : (test : DataLength) (t : List Entry) → Each (EntryRules test) t → length (tableBytes t) ≤ length t * (8 + mostKeyBytes + 21 * mostVersions)
 unfolding tableBytes
 table-most test [] each-none = omega arith
 table-most test (e ∷ es) (each-more r rs) = rw length-append (omega (arith, entry-size e, r .small, r .few, table-most test es rs))

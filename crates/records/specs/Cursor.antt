@@ -1,4 +1,4 @@
--- The head of an entry, as it is read at a place.
+-- The head of an entry and a version, as they are read at a place.
 use Prim.Native.Nat.{ℕ, _+_}
 use mathlib.Core.Bool.{cond}
 use mathlib.Core.List.{List}
@@ -7,14 +7,23 @@ use lib.ListN.{length}
 use Rattle.records.specs.declared.cursor.Head.{Head}
 use Rattle.records.specs.declared.cursor.HeadRead.{HeadRead}
 use Rattle.records.specs.declared.cursor.HeadRead.the-variants.{At, Outside}
-use Rattle.records.specs.Places.{keyLength, versionCount, firstVersion, nextEntry}
+use Rattle.records.specs.declared.VersionRead.{VersionRead}
+use Rattle.records.specs.declared.VersionRead.the-variants as version
+use Rattle.records.specs.Places.{versionCount, firstVersion, kindAt, recordAt}
+use Rattle.records.specs.Rules.{badKind}
 
--- of the entry at p: the key's place and length, the versions, the first one's place, the next entry's
+-- of the entry at p: how many versions it has, and where the first one stands
 abbrev pub headOf : List ℕ → ℕ → Head
-headOf bytes p = record { key = p + 8; length = keyLength bytes p; versions = versionCount bytes p; first = firstVersion bytes p; next = nextEntry bytes p }
+headOf bytes p = record { versions = versionCount bytes p; first = firstVersion bytes p }
 
 -- the head at p, or that the head or its key lies outside the bytes
 unfoldable pub headAt : List ℕ → ℕ → HeadRead
 headAt bytes p =
     cond (ltb (length bytes) (p + 8)) Outside
     (cond (ltb (length bytes) (firstVersion bytes p)) Outside (At (headOf bytes p)))
+
+-- the version at p, or that it lies outside the bytes or is of bad kind
+unfoldable pub versionAt : List ℕ → ℕ → VersionRead
+versionAt bytes p =
+    cond (ltb (length bytes) (p + 21)) version.Unread
+    (cond (badKind (kindAt bytes p)) version.Unread (version.At (recordAt bytes p)))

@@ -5,6 +5,6 @@ pub mod Walk
 pub mod Causes
 pub mod Within
 pub mod Cursor
-pub mod Needs
 pub mod Tables
 pub mod Example
+pub mod Inner

@@ -74,6 +74,10 @@ unfoldable pub greatest : Limit → List Record → Option Record
 greatest limit [] = none
 greatest limit (r ∷ rs) = better limit r (greatest limit rs)
 
+-- the record of an entry within a limit
+abbrev pub recordWithin : Limit → Entry → Option Record
+recordWithin limit e = greatest limit (e .versions)
+
 -- the lookup: that key's record of greatest sequence within the limit, or nothing
 unfoldable pub lookup : List Entry → List ℕ → Limit → Option Record
 lookup table key limit = greatest limit (recordsOf table key)

@@ -5,6 +5,7 @@ use mathlib.Core.List.{List, [], _∷_}
 use lib.Dec.{ltb, eqb}
 use lib.ListN.{length}
 use Rattle.laws.specs.Refusals.{Cause, cause, firstOf, orElse}
+use Rattle.numbers.specs.Limits.{mostKeyBytes, mostValueBytes}
 use Rattle.words.specs.declared.part.Order.{Order}
 use Rattle.words.specs.declared.part.Order.the-variants.{Less, Equal, Greater}
 use Rattle.words.specs.Part.{orderOf}
@@ -26,7 +27,7 @@ keyRises bytes prev p = eqb prev p || isLess (orderOf (keyAt bytes prev) (keyAt 
 abbrev pub keyCauses : List ℕ → (prev p : ℕ) → List Cause
 keyCauses bytes prev p =
     cause (ltb (length bytes) (p + 8)) 23
-    ∷ cause (ltb 1048576 (keyLength bytes p)) 24
+    ∷ cause (ltb mostKeyBytes (keyLength bytes p)) 24
     ∷ cause (ltb (length bytes) (firstVersion bytes p)) 24
     ∷ cause (eqb (versionCount bytes p) 0) 24
     ∷ cause (not (keyRises bytes prev p)) 25
@@ -35,7 +36,7 @@ keyCauses bytes prev p =
 unfoldable pub keyRefusal : List ℕ → (prev p : ℕ) → ℕ
 keyRefusal bytes prev p = firstOf (keyCauses bytes prev p)
 
--- kind (1 put, 2 tombstone)
+-- a byte that is no kind: neither 1 (put) nor 2 (tombstone)
 abbrev pub badKind : ℕ → Bool
 badKind k = not (eqb k 1 || eqb k 2)
 
@@ -57,7 +58,7 @@ abbrev pub versionCauses : List ℕ → DataLength → (prev p : ℕ) → List C
 versionCauses bytes test prev p =
     cause (ltb (length bytes) (p + 21)) 27
     ∷ cause (badKind (kindAt bytes p)) 28
-    ∷ cause (ltb 16777216 (lengthAt bytes p)) 29
+    ∷ cause (ltb mostValueBytes (lengthAt bytes p)) 29
     ∷ cause (pastData test (offsetAt bytes p) (lengthAt bytes p)) 29
     ∷ cause (fullTombstone (kindAt bytes p) (lengthAt bytes p)) 29
     ∷ cause (not (sequenceFalls bytes prev p)) 29

@@ -1,21 +1,19 @@
 // The cursor over entries: an entry's head, its key, a version, and where the next entry stands.
 use super::Kind;
+use super::KindRead;
 use super::Record;
+use super::VersionRead;
 use words::field;
 ghost use mathlib.Core.Path.{_≡_};
-ghost use Prim.Native.Nat.{_+_, _≤_};
+ghost use Prim.Native.Nat.{_≤_};
 ghost use lib.ListN.{length};
-ghost use Rattle.records.specs.Places.{keyAt, firstVersion, nextEntry, recordAt};
-ghost use Rattle.records.specs.Cursor.{headAt};
+ghost use Rattle.records.specs.Places.{keyAt, firstVersion, nextEntry};
+ghost use Rattle.records.specs.Cursor.{headAt, versionAt};
 
-// What the head of an entry says: where its key stands and how long it is, its versions, where the first one stands, and where the next
-// entry does.
+// What the head of an entry says: how many versions it has, and where the first one stands.
 pub struct Head {
-    pub key: usize,
-    pub length: usize,
     pub versions: u32,
     pub first: usize,
-    pub next: usize,
 }
 
 // The head read at a place.
@@ -49,14 +47,7 @@ pub fn head_at(bytes: &[u8], p: usize) -> HeadRead
     }
     let versions = field::u32_at(bytes, p + 4);
     let first = key + length;
-    let next = first + Record::BYTES * versions as usize;
-    HeadRead::At(Head {
-        key,
-        length,
-        versions,
-        first,
-        next,
-    })
+    HeadRead::At(Head { versions, first })
 }
 
 // The key of the entry at p.
@@ -79,26 +70,27 @@ pub fn next_entry(bytes: &[u8], p: usize) -> usize
     p + Head::BYTES + length + Record::BYTES * versions
 }
 
-// The version at p.
-pub fn record_at(bytes: &[u8], p: usize) -> Record
-    requires { ⌜ p + 21 ≤ length (now bytes) ⌝ }
-    ensures { λ r. ⌜ r ≡ recordAt (now (bytes .entry)) p ⌝ }
+// The version at p, where it lies in the bytes and its kind is one.
+pub fn version_at(bytes: &[u8], p: usize) -> VersionRead
+    ensures { λ r. ⌜ r ≡ versionAt (now (bytes .entry)) p ⌝ }
 {
+    if bytes.len() < p {
+        return VersionRead::Unread;
+    }
+    if bytes.len() - p < Record::BYTES {
+        return VersionRead::Unread;
+    }
     let sequence = field::u64_at(bytes, p);
     let length = field::u32_at(bytes, p + 9);
     let offset = field::u64_at(bytes, p + 13);
-    if bytes[p + 8] == Kind::PUT {
-        return Record {
-            kind: Kind::Put,
+    let k = Kind::from_byte(bytes[p + 8]);
+    match k {
+        KindRead::Known(kind) => VersionRead::At(Record {
+            kind,
             sequence,
             offset,
             length,
-        };
-    }
-    Record {
-        kind: Kind::Tombstone,
-        sequence,
-        offset,
-        length,
+        }),
+        KindRead::Unknown => VersionRead::Unread,
     }
 }

@@ -72,6 +72,12 @@ impl Arena {
     pub const MAX_KEYS: usize = 65_536;
 }
 
+// A version read at a place: its record; or it lies outside the bytes, or its kind is none.
+pub enum VersionRead {
+    At(Record),
+    Unread,
+}
+
 // How new a record may be: any, or up to a sequence.
 pub enum Limit {
     None,

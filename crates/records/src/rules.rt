@@ -5,6 +5,7 @@ use super::KindRead;
 use super::Record;
 use super::cursor;
 use super::cursor::Head;
+use numbers::Refusal;
 use words::field;
 use words::part;
 ghost use mathlib.Core.Path.{_≡_};
@@ -12,7 +13,7 @@ ghost use Prim.Native.Nat.{_+_, _≤_};
 ghost use lib.ListN.{length};
 ghost use Rattle.records.specs.Rules.{keyRises, keyRefusal, badKind, pastData, fullTombstone, sequenceFalls, versionRefusal, versionsRefusal, entryVersionsRefusal, entryRefusal, unslotted};
 ghost use Rattle.records.specs.Places.{firstVersion};
-ghost use Rattle.records.specs.Needs.{KeysInside, Walking, Following};
+ghost use Rattle.records.specs.Inner.Walking.{KeysInside, Walking, Following};
 
 // The key at p is greater than the one of the entry at prev, if there is one.
 fn key_rises(bytes: &[u8], prev: usize, p: usize) -> bool
@@ -35,22 +36,22 @@ pub fn key_refusal(bytes: &[u8], prev: usize, p: usize) -> u8
     ensures { λ r. ⌜ r ≡ keyRefusal (now (bytes .entry)) prev p ⌝ }
 {
     if bytes.len() - p < Head::BYTES {
-        return 23;
+        return Refusal::HEAD;
     }
     let length = field::u32_at(bytes, p);
     if Head::MAX_KEY < length {
-        return 24;
+        return Refusal::KEY;
     }
     if bytes.len() - p - Head::BYTES < length as usize {
-        return 24;
+        return Refusal::KEY;
     }
     if field::u32_at(bytes, p + 4) == 0 {
-        return 24;
+        return Refusal::KEY;
     }
     if key_rises(bytes, prev, p) {
         return 0;
     }
-    25
+    Refusal::KEY_ORDER
 }
 
 // Whether a byte is no kind.
@@ -106,26 +107,26 @@ pub fn version_refusal(bytes: &[u8], test: DataLength, prev: usize, p: usize) ->
     ensures { λ r. ⌜ r ≡ versionRefusal (now (bytes .entry)) test prev p ⌝ }
 {
     if bytes.len() - p < Record::BYTES {
-        return 27;
+        return Refusal::VERSION;
     }
     let kind = bytes[p + 8];
     if bad_kind(kind) {
-        return 28;
+        return Refusal::KIND;
     }
     let size = field::u32_at(bytes, p + 9);
     if Record::MAX_VALUE < size {
-        return 29;
+        return Refusal::VALUE;
     }
     if past_data(test, field::u64_at(bytes, p + 13), size) {
-        return 29;
+        return Refusal::VALUE;
     }
     if full_tombstone(kind, size as u64) {
-        return 29;
+        return Refusal::VALUE;
     }
     if sequence_falls(bytes, prev, p) {
         return 0;
     }
-    29
+    Refusal::VALUE
 }
 
 // The first rule that one of the count versions from p on breaks, or 0.

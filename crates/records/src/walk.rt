@@ -3,6 +3,7 @@ use super::DataLength;
 use super::Walked;
 use super::cursor;
 use super::rules;
+use numbers::Refusal;
 ghost use mathlib.Core.Path.{_≡_};
 ghost use Rattle.records.specs.Rules.{unslotted};
 ghost use Rattle.records.specs.Walk.{walkFrom};
@@ -34,6 +35,6 @@ pub fn walk(bytes: &[u8], test: DataLength, most: usize) -> Walked
     Walked {
         keys,
         end: p,
-        rule: 30,
+        rule: Refusal::LEFT_OVER,
     }
 }

@@ -8,7 +8,8 @@ use Rattle.records.specs.declared.Walked.{Walked}
 use Rattle.records.specs.Walk.{walkFrom}
 use Rattle.records.proofs.RuleLaws.{entered}
 use Rattle.records.proofs.WalkLaws.{walk-end, walk-stop, walk-on}
-use Rattle.point.specs.Validate.{slotRefusal, arenaRefusal, Stepping}
+use Rattle.point.specs.Validate.{slotRefusal, arenaRefusal}
+use Rattle.point.specs.Inner.Walking.{Stepping}
 use Rattle.point.proofs.ValidateLaws.{arena-start, step-first, step-next}
 use native.Mathlib.Omega.{arith}
 use borrow.Author.Needs.{needs}

@@ -1,4 +1,4 @@
--- `head_at` is `headAt`, by its tests; a slice is shorter than 2^63 bytes, so the next place fits. Assumes nothing.
+-- `head_at` is `headAt`, by its tests. Assumes nothing.
 use native.Mathlib.Omega.{arith}
 use Rattle.records.proofs.CursorLaws.{head-short, head-cut, head-whole}
 use borrow.Author.Needs.{needs}
@@ -13,9 +13,6 @@ returns-2 c = head-short _ _ (omega arith)
 
 returns-3 : tie.Need-returns-3
 returns-3 c = head-cut _ _ (omega arith) (omega arith)
-
-add-next : tie.Need-add-next
-add-next c = omega (arith, c .before .before .before .before .before .before .good .0 .1)
 
 returns-4 : tie.Need-returns-4
 returns-4 c = head-whole _ _ _ _ (c .before .before .u32-at .ensures) (c .u32-at2 .ensures) (omega arith)
@@ -35,7 +32,4 @@ head-at-spec =
     (λ c. search needs)
     (λ c κs. search needs)
     (λ c. search needs)
-    (λ c. search needs)
-    (λ c. search needs)
-    add-next
     returns-4)

@@ -6,7 +6,7 @@ use native.Mathlib.Omega.{arith}
 use borrow.Author.Tests.{eq-eqb, ne-eqb}
 use Rattle.records.specs.Rules.{unslotted}
 use Rattle.records.specs.Walk.{walkFrom}
-use Rattle.records.specs.Needs.{Walking}
+use Rattle.records.specs.Inner.Walking.{Walking}
 use Rattle.records.proofs.RuleLaws.{entered}
 use Rattle.records.proofs.WalkLaws.{after, after-none, after-more, after-stop, walk-end, walk-stop, walk-on}
 use borrow.Author.Needs.{needs}
