@@ -11,16 +11,17 @@ use lib.ListN.{length, getD, set, take, drop, length-drop}
 use lib.Seq.{length-take-le, getD-take, take-set-le}
 use Rattle.laws.specs.Steps.{least, steps}
 use Rattle.laws.proofs.StepsLaws.{steps-none, steps-more, steps-failed}
-use Rattle.construct.specs.Construct.{bucketsOf, tries, group, size, seat, Placing, pilotNoted, placeGroup, placeOf, placeSize, placeDown, twins, twinsAt}
-use Rattle.construct.specs.Seating.{Keys, SeatsReady, PilotSearched}
-use Rattle.construct.specs.Layout.{bucketStart, placing, Bench, Stepped}
+use Rattle.construct.specs.Construct.{bucketsOf, direct, tries, group, size, seat, Placing, pilotNoted, placeGroup, placeOf, placeSize, placeDown, twins, twinsAt}
+use Rattle.construct.specs.Inner.Seating.{Keys, SeatsReady, PilotSearched}
+use Rattle.construct.specs.Inner.Layout.{bucketStart, Bench, Stepped}
+use Rattle.construct.specs.Answer.{placing}
 use Rattle.construct.proofs.Placed.{member-of, of-skips, of-several}
 use Rattle.construct.proofs.PlacesLaws.{start-next, start-all, start-rises}
 use Rattle.construct.proofs.PartsLaws.{part, back, set-inside, set-before, back-inside, back-before}
 
 -- other words, with the places of the buckets as they were
-pub bench-kept : (h w w′ : List ℕ) (n b : ℕ) → Bench h w n b → length w′ ≡ length w → take (b + 1) w′ ≡ take (b + 1) w → Bench h w′ n b
-bench-kept h w w′ n b B len same = record {
+pub bench-kept : (wide narrow narrow′ : List ℕ) (n b : ℕ) → Bench wide narrow n b → length narrow′ ≡ length narrow → take (b + 1) narrow′ ≡ take (b + 1) narrow → Bench wide narrow′ n b
+bench-kept wide narrow narrow′ n b B len same = record {
   any = B .any;
   most = B .most;
   count = B .count;
@@ -33,193 +34,193 @@ bench-kept h w w′ n b B len same = record {
   };
 }
   where
-    nb : bucketsOf (length (take n h)) ≡ b
-    nb = ap bucketsOf (length-take-le n h (omega (arith, B .long))) ∙ sym (B .count)
+    nb : bucketsOf (length (take n wide)) ≡ b
+    nb = ap bucketsOf (length-take-le n wide (omega (arith, B .long))) ∙ sym (B .count)
 
-    at : (k : ℕ) → k ≤ b → getD w′ k 0 ≡ getD w k 0
-    at k l = sym (getD-take (b + 1) w′ k 0 (omega arith)) ∙ ap (λ (x : List ℕ). getD x k 0) same ∙ getD-take (b + 1) w k 0 (omega arith)
+    at : (k : ℕ) → k ≤ b → getD narrow′ k 0 ≡ getD narrow k 0
+    at k l = sym (getD-take (b + 1) narrow′ k 0 (omega arith)) ∙ ap (λ (x : List ℕ). getD x k 0) same ∙ getD-take (b + 1) narrow k 0 (omega arith)
 
 pub same-placing : (p p′ s s′ : List ℕ) → p ≡ p′ → s ≡ s′ → _≡_ {A = Placing} (record { pilots = p; slots = s }) (record { pilots = p′; slots = s′ })
 same-placing p p′ s s′ e f i = record { pilots = e i; slots = f i }
 
-module _ (h w : List ℕ) (n b : ℕ) (B : Bench h w n b) where
-  pub bench-keys : length (take n h) ≡ n
-  bench-keys = length-take-le n h (omega (arith, B .long))
+module _ (wide narrow : List ℕ) (n b : ℕ) (B : Bench wide narrow n b) where
+  pub bench-keys : length (take n wide) ≡ n
+  bench-keys = length-take-le n wide (omega (arith, B .long))
 
-  pub bench-any : 0 < length (take n h)
+  pub bench-any : 0 < length (take n wide)
   bench-any = omega (arith, bench-keys, B .any)
 
-  pub bench-buckets : bucketsOf (length (take n h)) ≡ b
+  pub bench-buckets : bucketsOf (length (take n wide)) ≡ b
   bench-buckets = ap bucketsOf bench-keys ∙ sym (B .count)
 
   module _ (k : ℕ) (l : k < b) where
-    low-k : k < bucketsOf (length (take n h))
+    low-k : k < bucketsOf (length (take n wide))
     low-k = omega (arith, l, bench-buckets)
 
     -- where bucket k begins and ends
-    pub bench-from : getD w k 0 ≡ bucketStart (take n h) k
+    pub bench-from : getD narrow k 0 ≡ bucketStart (take n wide) k
     bench-from = B .grouped .starts k (omega (arith, low-k))
 
-    pub bench-to : getD w (k + 1) 0 ≡ bucketStart (take n h) k + size (take n h) k
-    bench-to = B .grouped .starts (k + 1) (omega (arith, low-k)) ∙ ap (bucketStart (take n h)) (add-one k) ∙ start-next (take n h) bench-any k
+    pub bench-to : getD narrow (k + 1) 0 ≡ bucketStart (take n wide) k + size (take n wide) k
+    bench-to = B .grouped .starts (k + 1) (omega (arith, low-k)) ∙ ap (bucketStart (take n wide)) (add-one k) ∙ start-next (take n wide) bench-any k
 
-    pub bench-most : bucketStart (take n h) k + size (take n h) k ≤ n
-    bench-most = omega (arith, start-rises (take n h) bench-any k (bucketsOf (length (take n h))) low-k, start-all (take n h) bench-any, bench-keys)
+    pub bench-most : bucketStart (take n wide) k + size (take n wide) k ≤ n
+    bench-most = omega (arith, start-rises (take n wide) bench-any k (bucketsOf (length (take n wide))) low-k, start-all (take n wide) bench-any, bench-keys)
 
     -- its members, as they are lent
-    pub bench-group : part (n + getD w k 0) (n + getD w (k + 1) 0 - (n + getD w k 0)) h ≡ group (take n h) k
+    pub bench-group : part (n + getD narrow k 0) (n + getD narrow (k + 1) 0 - (n + getD narrow k 0)) wide ≡ group (take n wide) k
     bench-group =
-        let many : n + getD w (k + 1) 0 - (n + getD w k 0) ≡ size (take n h) k = omega (arith, bench-from, bench-to) in
-        ap₂ (λ (x y : ℕ). part x y h) (ap₂ _+_ (sym bench-keys) bench-from) many
+        let many : n + getD narrow (k + 1) 0 - (n + getD narrow k 0) ≡ size (take n wide) k = omega (arith, bench-from, bench-to) in
+        ap₂ (λ (x y : ℕ). part x y wide) (ap₂ _+_ (sym bench-keys) bench-from) many
         ∙ B .grouped .groups k low-k
 
-    pub bench-ready : (ms s : List ℕ) → ms ≡ group (take n h) k → length s ≡ n → SeatsReady (take n h) ms s
+    pub bench-ready : (ms s : List ℕ) → ms ≡ group (take n wide) k → length s ≡ n → SeatsReady (take n wide) ms s
     unfolding size
     bench-ready ms s e es = record {
       of = record {
         any = bench-any;
         most = omega (arith, B .most, bench-keys);
-        keys = λ j lj. subst (λ (x : List ℕ). getD x j 0 < length (take n h)) (sym e) (member-of (take n h) k j (subst (λ (x : List ℕ). j < length x) e lj) .0);
+        keys = λ j lj. subst (λ (x : List ℕ). getD x j 0 < length (take n wide)) (sym e) (member-of (take n wide) k j (subst (λ (x : List ℕ). j < length x) e lj) .0);
       };
       same = es ∙ sym bench-keys;
     }
 
     -- the slots, as they are lent
-    pub bench-slots : length (part (b + 1 + b) n w) ≡ n
-    bench-slots = length-take-le n (drop (b + 1 + b) w) (omega (arith, length-drop (b + 1 + b) w, B .room))
+    pub bench-slots : length (part (b + 1 + b) n narrow) ≡ n
+    bench-slots = length-take-le n (drop (b + 1 + b) narrow) (omega (arith, length-drop (b + 1 + b) narrow, B .room))
 
     -- a search for bucket k's pilot that found none, and one that did
-    module _ (ms t : List ℕ) (r : ℕ) (e : ms ≡ group (take n h) k) (f : PilotSearched (take n h) ms (part (b + 1 + b) n w) t r) where
-      pub group-none : r ≡ tries → placeGroup (take n h) k (placing n b w) ≡ none
+    module _ (ms t : List ℕ) (r : ℕ) (e : ms ≡ group (take n wide) k) (f : PilotSearched (take n wide) ms (part (b + 1 + b) n narrow) t r) where
+      pub group-none : r ≡ tries → placeGroup (take n wide) k (placing n b narrow) ≡ none
       unfolding placeGroup placing size
-      group-none z = ap (Option·map (pilotNoted k 0 (placing n b w))) (subst (λ (x : List ℕ). least (λ p. seat (take n h) x p (length x) (part (b + 1 + b) n w)) tries 0 ≡ none) e (f .miss z .0))
+      group-none z = ap (Option·map (pilotNoted k 0 (placing n b narrow))) (subst (λ (x : List ℕ). least (λ p. seat (take n wide) x p (length x) (part (b + 1 + b) n narrow)) tries 0 ≡ none) e (f .miss z .0))
 
-      pub group-some : (r ≡ tries → ⊥) → length t ≡ n → Stepped (placeGroup (take n h) k (placing n b w)) n b w (set (back (b + 1 + b) n t w) (b + 1 + k) r) true
+      pub group-some : (r ≡ tries → ⊥) → length t ≡ n → Stepped (placeGroup (take n wide) k (placing n b narrow)) n b narrow (set (back (b + 1 + b) n t narrow) (b + 1 + k) r) true
       unfolding placeGroup placing size pilotNoted
       group-some z len = (
-        ap (Option·map (pilotNoted k 0 (placing n b w))) (subst (λ (x : List ℕ). least (λ p. seat (take n h) x p (length x) (part (b + 1 + b) n w)) tries 0 ≡ some (r, t)) e (f .hit (lt-of-le-of-ne (f .most) z)))
+        ap (Option·map (pilotNoted k 0 (placing n b narrow))) (subst (λ (x : List ℕ). least (λ p. seat (take n wide) x p (length x) (part (b + 1 + b) n narrow)) tries 0 ≡ some (r, t)) e (f .hit (lt-of-le-of-ne (f .most) z)))
             ∙ ap some (same-placing _ _ _ _ (sym pilots) (sym slots)),
-        take-set-le (b + 1) (back (b + 1 + b) n t w) (b + 1 + k) r (omega arith) ∙ back-before w (b + 1 + b) n t fits 0 (b + 1) (omega arith),
+        take-set-le (b + 1) (back (b + 1 + b) n t narrow) (b + 1 + k) r (omega arith) ∙ back-before narrow (b + 1 + b) n t fits 0 (b + 1) (omega arith),
       )
         where
-          fits : b + 1 + b ≤ length w
+          fits : b + 1 + b ≤ length narrow
           fits = omega (arith, B .room)
 
-          pilots : part (b + 1) b (set (back (b + 1 + b) n t w) (b + 1 + k) r) ≡ set (part (b + 1) b w) k (0 + r)
-          pilots = set-inside (back (b + 1 + b) n t w) (b + 1) b k r l ∙ ap₂ (λ (x : List ℕ) (y : ℕ). set x k y) (back-before w (b + 1 + b) n t fits (b + 1) b (omega arith)) (sym (zero-add r))
+          pilots : part (b + 1) b (set (back (b + 1 + b) n t narrow) (b + 1 + k) r) ≡ set (part (b + 1) b narrow) k (0 + r)
+          pilots = set-inside (back (b + 1 + b) n t narrow) (b + 1) b k r l ∙ ap₂ (λ (x : List ℕ) (y : ℕ). set x k y) (back-before narrow (b + 1 + b) n t fits (b + 1) b (omega arith)) (sym (zero-add r))
 
-          slots : part (b + 1 + b) n (set (back (b + 1 + b) n t w) (b + 1 + k) r) ≡ t
-          slots = set-before (back (b + 1 + b) n t w) (b + 1 + b) n (b + 1 + k) r (omega arith) ∙ back-inside w (b + 1 + b) n t fits len
+          slots : part (b + 1 + b) n (set (back (b + 1 + b) n t narrow) (b + 1 + k) r) ≡ t
+          slots = set-before (back (b + 1 + b) n t narrow) (b + 1 + b) n (b + 1 + k) r (omega arith) ∙ back-inside narrow (b + 1 + b) n t fits len
 
     -- the same, where the length of the lent part is m, which is n
-    module _ (m : ℕ) (em : m ≡ n) (ms t : List ℕ) (r : ℕ) (e : ms ≡ group (take n h) k) where
-      pub lent-ready : SeatsReady (take n h) ms (part (b + 1 + b) m w)
-      lent-ready = bench-ready ms (part (b + 1 + b) m w) e (ap (λ (x : ℕ). length (part (b + 1 + b) x w)) em ∙ bench-slots)
+    module _ (m : ℕ) (em : m ≡ n) (ms t : List ℕ) (r : ℕ) (e : ms ≡ group (take n wide) k) where
+      pub lent-ready : SeatsReady (take n wide) ms (part (b + 1 + b) m narrow)
+      lent-ready = bench-ready ms (part (b + 1 + b) m narrow) e (ap (λ (x : ℕ). length (part (b + 1 + b) x narrow)) em ∙ bench-slots)
 
-      pub lent-none : PilotSearched (take n h) ms (part (b + 1 + b) m w) t r → r ≡ tries → placeGroup (take n h) k (placing n b w) ≡ none
-      lent-none f = group-none ms t r e (subst (λ (x : ℕ). PilotSearched (take n h) ms (part (b + 1 + b) x w) t r) em f)
+      pub lent-none : PilotSearched (take n wide) ms (part (b + 1 + b) m narrow) t r → r ≡ tries → placeGroup (take n wide) k (placing n b narrow) ≡ none
+      lent-none f = group-none ms t r e (subst (λ (x : ℕ). PilotSearched (take n wide) ms (part (b + 1 + b) x narrow) t r) em f)
 
-      pub lent-some : PilotSearched (take n h) ms (part (b + 1 + b) m w) t r → (r ≡ tries → ⊥) → length t ≡ length (part (b + 1 + b) m w) → Stepped (placeGroup (take n h) k (placing n b w)) n b w (set (back (b + 1 + b) m t w) (b + 1 + k) r) true
+      pub lent-some : PilotSearched (take n wide) ms (part (b + 1 + b) m narrow) t r → (r ≡ tries → ⊥) → length t ≡ length (part (b + 1 + b) m narrow) → Stepped (placeGroup (take n wide) k (placing n b narrow)) n b narrow (set (back (b + 1 + b) m t narrow) (b + 1 + k) r) true
       lent-some f z len =
-          subst (λ (x : ℕ). Stepped (placeGroup (take n h) k (placing n b w)) n b w (set (back (b + 1 + b) x t w) (b + 1 + k) r) true) (sym em)
-          (group-some ms t r e (subst (λ (x : ℕ). PilotSearched (take n h) ms (part (b + 1 + b) x w) t r) em f) z (len ∙ ap (λ (x : ℕ). length (part (b + 1 + b) x w)) em ∙ bench-slots))
+          subst (λ (x : ℕ). Stepped (placeGroup (take n wide) k (placing n b narrow)) n b narrow (set (back (b + 1 + b) x t narrow) (b + 1 + k) r) true) (sym em)
+          (group-some ms t r e (subst (λ (x : ℕ). PilotSearched (take n wide) ms (part (b + 1 + b) x narrow) t r) em f) z (len ∙ ap (λ (x : ℕ). length (part (b + 1 + b) x narrow)) em ∙ bench-slots))
 
 -- what a read of bucket k's two ends needs: they lie in order, and all of it inside the workspace
-pub record Inside (h w : List ℕ) (n b k : ℕ) : Type 0 where
-  pub ends : getD w k 0 ≤ getD w (k + 1) 0
-  pub last : getD w (k + 1) 0 ≤ n
-  pub few : n < 2147483648
-  pub long : length h ≡ n + n
-  pub room : b + 1 + b + n ≤ length w
+pub record Inside (wide narrow : List ℕ) (n b k : ℕ) : Type 0 where
+  pub ends : getD narrow k 0 ≤ getD narrow (k + 1) 0
+  pub last : getD narrow (k + 1) 0 ≤ n
+  pub few : n < direct
+  pub long : length wide ≡ n + n
+  pub room : b + 1 + b + n ≤ length narrow
 
-pub bench-inside : (h w : List ℕ) (n b : ℕ) (B : Bench h w n b) (k : ℕ) → k < b → Inside h w n b k
-bench-inside h w n b B k l = record {
-  ends = omega (arith, bench-from h w n b B k l, bench-to h w n b B k l);
-  last = omega (arith, bench-to h w n b B k l, bench-most h w n b B k l);
+pub bench-inside : (wide narrow : List ℕ) (n b : ℕ) (B : Bench wide narrow n b) (k : ℕ) → k < b → Inside wide narrow n b k
+bench-inside wide narrow n b B k l = record {
+  ends = omega (arith, bench-from wide narrow n b B k l, bench-to wide narrow n b B k l);
+  last = omega (arith, bench-to wide narrow n b B k l, bench-most wide narrow n b B k l);
   few = B .most;
   long = B .long;
   room = B .room;
 }
 
 -- a bucket's size, as its two ends tell it; one of another size is passed over
-module _ (h w : List ℕ) (n b : ℕ) (B : Bench h w n b) (k : ℕ) (l : k < b) where
-  pub bench-size : getD w (k + 1) 0 - getD w k 0 ≡ size (take n h) k
-  bench-size = omega (arith, bench-from h w n b B k l, bench-to h w n b B k l)
+module _ (wide narrow : List ℕ) (n b : ℕ) (B : Bench wide narrow n b) (k : ℕ) (l : k < b) where
+  pub bench-size : getD narrow (k + 1) 0 - getD narrow k 0 ≡ size (take n wide) k
+  bench-size = omega (arith, bench-from wide narrow n b B k l, bench-to wide narrow n b B k l)
 
-  pub of-other : (s : ℕ) → (getD w (k + 1) 0 - getD w k 0 ≡ s → ⊥) → Stepped (placeOf (take n h) s k (placing n b w)) n b w w true
-  of-other s z = (of-skips (take n h) s k (placing n b w) (λ y. z (bench-size ∙ y)), refl)
+  pub of-other : (s : ℕ) → (getD narrow (k + 1) 0 - getD narrow k 0 ≡ s → ⊥) → Stepped (placeOf (take n wide) s k (placing n b narrow)) n b narrow narrow true
+  of-other s z = (of-skips (take n wide) s k (placing n b narrow) (λ y. z (bench-size ∙ y)), refl)
 
-  pub of-group : (s : ℕ) → 1 < s → getD w (k + 1) 0 - getD w k 0 ≡ s → placeOf (take n h) s k (placing n b w) ≡ placeGroup (take n h) k (placing n b w)
-  of-group s two z = of-several (take n h) s k (placing n b w) (sym bench-size ∙ z) (λ y. omega arith)
+  pub of-group : (s : ℕ) → 1 < s → getD narrow (k + 1) 0 - getD narrow k 0 ≡ s → placeOf (take n wide) s k (placing n b narrow) ≡ placeGroup (take n wide) k (placing n b narrow)
+  of-group s two z = of-several (take n wide) s k (placing n b narrow) (sym bench-size ∙ z) (λ y. omega arith)
 
-  pub of-same : (s : ℕ) (w′ : List ℕ) (r : Bool) → 1 < s → getD w (k + 1) 0 - getD w k 0 ≡ s → Stepped (placeGroup (take n h) k (placing n b w)) n b w w′ r → Stepped (placeOf (take n h) s k (placing n b w)) n b w w′ r
-  of-same s w′ r two z g = subst (λ (o : Option Placing). Stepped o n b w w′ r) (sym (of-group s two z)) g
+  pub of-same : (s : ℕ) (narrow′ : List ℕ) (r : Bool) → 1 < s → getD narrow (k + 1) 0 - getD narrow k 0 ≡ s → Stepped (placeGroup (take n wide) k (placing n b narrow)) n b narrow narrow′ r → Stepped (placeOf (take n wide) s k (placing n b narrow)) n b narrow narrow′ r
+  of-same s narrow′ r two z g = subst (λ (o : Option Placing). Stepped o n b narrow narrow′ r) (sym (of-group s two z)) g
 
--- steps of the placing, one after another: the words w₀ at first, w so far
-pub record SoFar (f : ℕ → Placing → Option Placing) (i n b : ℕ) (w₀ w : List ℕ) : Type 0 where
-  pub long : length w ≡ length w₀
-  pub ends : take (b + 1) w ≡ take (b + 1) w₀
-  pub went : steps f i (placing n b w₀) ≡ some (placing n b w)
+-- steps of the placing, one after another: the words narrow₀ at first, narrow so far
+pub record SoFar (f : ℕ → Placing → Option Placing) (i n b : ℕ) (narrow₀ narrow : List ℕ) : Type 0 where
+  pub long : length narrow ≡ length narrow₀
+  pub ends : take (b + 1) narrow ≡ take (b + 1) narrow₀
+  pub went : steps f i (placing n b narrow₀) ≡ some (placing n b narrow)
 
-module _ (f : ℕ → Placing → Option Placing) (n b : ℕ) (w₀ : List ℕ) where
-  pub so-far-none : SoFar f 0 n b w₀ w₀
-  so-far-none = record { long = refl; ends = refl; went = steps-none f (placing n b w₀) }
+module _ (f : ℕ → Placing → Option Placing) (n b : ℕ) (narrow₀ : List ℕ) where
+  pub so-far-none : SoFar f 0 n b narrow₀ narrow₀
+  so-far-none = record { long = refl; ends = refl; went = steps-none f (placing n b narrow₀) }
 
-  module _ (i : ℕ) (w w′ : List ℕ) (r : Bool) (s : SoFar f i n b w₀ w) (g : Stepped (f i (placing n b w)) n b w w′ r) where
-    pub so-far-more : r ≡ true → length w′ ≡ length w → SoFar f (i + 1) n b w₀ w′
+  module _ (i : ℕ) (narrow narrow′ : List ℕ) (r : Bool) (s : SoFar f i n b narrow₀ narrow) (g : Stepped (f i (placing n b narrow)) n b narrow narrow′ r) where
+    pub so-far-more : r ≡ true → length narrow′ ≡ length narrow → SoFar f (i + 1) n b narrow₀ narrow′
     so-far-more e len = record {
       long = len ∙ s .long;
       ends = yes-part r e g .1 ∙ s .ends;
-      went = ap (λ (x : ℕ). steps f x (placing n b w₀)) (add-one i) ∙ steps-more f i (placing n b w₀) (placing n b w) (s .went) ∙ yes-part r e g .0;
+      went = ap (λ (x : ℕ). steps f x (placing n b narrow₀)) (add-one i) ∙ steps-more f i (placing n b narrow₀) (placing n b narrow) (s .went) ∙ yes-part r e g .0;
     }
       where
-        yes-part : (r : Bool) → r ≡ true → Stepped (f i (placing n b w)) n b w w′ r → Stepped (f i (placing n b w)) n b w w′ true
+        yes-part : (r : Bool) → r ≡ true → Stepped (f i (placing n b narrow)) n b narrow narrow′ r → Stepped (f i (placing n b narrow)) n b narrow narrow′ true
         yes-part true e g = g
         yes-part false e g = absurd (false≢true e)
 
-    pub so-far-fails : (m : ℕ) → i < m → r ≡ false → steps f m (placing n b w₀) ≡ none
+    pub so-far-fails : (m : ℕ) → i < m → r ≡ false → steps f m (placing n b narrow₀) ≡ none
     so-far-fails m l e =
-        ap (λ (x : ℕ). steps f x (placing n b w₀)) (omega arith)
-        ∙ steps-failed f (suc i) (placing n b w₀) (steps-more f i (placing n b w₀) (placing n b w) (s .went) ∙ no-part r e g) (m - suc i)
+        ap (λ (x : ℕ). steps f x (placing n b narrow₀)) (omega arith)
+        ∙ steps-failed f (suc i) (placing n b narrow₀) (steps-more f i (placing n b narrow₀) (placing n b narrow) (s .went) ∙ no-part r e g) (m - suc i)
       where
-        no-part : (r : Bool) → r ≡ false → Stepped (f i (placing n b w)) n b w w′ r → f i (placing n b w) ≡ none
+        no-part : (r : Bool) → r ≡ false → Stepped (f i (placing n b narrow)) n b narrow narrow′ r → f i (placing n b narrow) ≡ none
         no-part true e g = absurd (false≢true (sym e))
         no-part false e g = g
 
   -- the same, with the buckets that are left counted down
-  pub left-none : SoFar f (b - b) n b w₀ w₀
-  left-none = subst (λ (i : ℕ). SoFar f i n b w₀ w₀) (omega arith) so-far-none
+  pub left-none : SoFar f (b - b) n b narrow₀ narrow₀
+  left-none = subst (λ (i : ℕ). SoFar f i n b narrow₀ narrow₀) (omega arith) so-far-none
 
-  pub left-more : (left : ℕ) (w w′ : List ℕ) (r : Bool) → 0 < left → left ≤ b → SoFar f (b - left) n b w₀ w → Stepped (f (b - left) (placing n b w)) n b w w′ r → r ≡ true → length w′ ≡ length w → SoFar f (b - (left - 1)) n b w₀ w′
-  left-more left w w′ r some-left most s g e len = subst (λ (i : ℕ). SoFar f i n b w₀ w′) (omega arith) (so-far-more (b - left) w w′ r s g e len)
+  pub left-more : (left : ℕ) (narrow narrow′ : List ℕ) (r : Bool) → 0 < left → left ≤ b → SoFar f (b - left) n b narrow₀ narrow → Stepped (f (b - left) (placing n b narrow)) n b narrow narrow′ r → r ≡ true → length narrow′ ≡ length narrow → SoFar f (b - (left - 1)) n b narrow₀ narrow′
+  left-more left narrow narrow′ r some-left most s g e len = subst (λ (i : ℕ). SoFar f i n b narrow₀ narrow′) (omega arith) (so-far-more (b - left) narrow narrow′ r s g e len)
 
-  pub so-far-all : (i m : ℕ) (w : List ℕ) → i ≡ m → SoFar f i n b w₀ w → Stepped (steps f m (placing n b w₀)) n b w₀ w true
-  so-far-all i m w e s = (ap (λ (x : ℕ). steps f x (placing n b w₀)) (sym e) ∙ s .went, s .ends)
+  pub so-far-all : (i m : ℕ) (narrow : List ℕ) → i ≡ m → SoFar f i n b narrow₀ narrow → Stepped (steps f m (placing n b narrow₀)) n b narrow₀ narrow true
+  so-far-all i m narrow e s = (ap (λ (x : ℕ). steps f x (placing n b narrow₀)) (sym e) ∙ s .went, s .ends)
 
 -- the passes from size top down, with s the next size
-module _ (hs : List ℕ) (top n b : ℕ) (w₀ : List ℕ) where
-  pub down-none : SoFar (placeDown hs top) (top - top) n b w₀ w₀
-  down-none = subst (λ (i : ℕ). SoFar (placeDown hs top) i n b w₀ w₀) (omega arith) (so-far-none (placeDown hs top) n b w₀)
+module _ (hs : List ℕ) (top n b : ℕ) (narrow₀ : List ℕ) where
+  pub down-none : SoFar (placeDown hs top) (top - top) n b narrow₀ narrow₀
+  down-none = subst (λ (i : ℕ). SoFar (placeDown hs top) i n b narrow₀ narrow₀) (omega arith) (so-far-none (placeDown hs top) n b narrow₀)
 
-  module _ (s : ℕ) (w w′ : List ℕ) (r : Bool) (l : s ≤ top) (f : SoFar (placeDown hs top) (top - s) n b w₀ w) (g : Stepped (placeSize hs s (placing n b w)) n b w w′ r) where
-    as-down : Stepped (placeDown hs top (top - s) (placing n b w)) n b w w′ r
+  module _ (s : ℕ) (narrow narrow′ : List ℕ) (r : Bool) (l : s ≤ top) (f : SoFar (placeDown hs top) (top - s) n b narrow₀ narrow) (g : Stepped (placeSize hs s (placing n b narrow)) n b narrow narrow′ r) where
+    as-down : Stepped (placeDown hs top (top - s) (placing n b narrow)) n b narrow narrow′ r
     unfolding placeDown
-    as-down = subst (λ (x : ℕ). Stepped (placeSize hs x (placing n b w)) n b w w′ r) (omega arith) g
+    as-down = subst (λ (x : ℕ). Stepped (placeSize hs x (placing n b narrow)) n b narrow narrow′ r) (omega arith) g
 
-    pub down-more : 1 < s → r ≡ true → length w′ ≡ length w → SoFar (placeDown hs top) (top - (s - 1)) n b w₀ w′
-    down-more two e len = subst (λ (i : ℕ). SoFar (placeDown hs top) i n b w₀ w′) (omega arith) (so-far-more (placeDown hs top) n b w₀ (top - s) w w′ r f as-down e len)
+    pub down-more : 1 < s → r ≡ true → length narrow′ ≡ length narrow → SoFar (placeDown hs top) (top - (s - 1)) n b narrow₀ narrow′
+    down-more two e len = subst (λ (i : ℕ). SoFar (placeDown hs top) i n b narrow₀ narrow′) (omega arith) (so-far-more (placeDown hs top) n b narrow₀ (top - s) narrow narrow′ r f as-down e len)
 
-    pub down-fails : 1 < s → r ≡ false → steps (placeDown hs top) (top - 1) (placing n b w₀) ≡ none
-    down-fails two e = so-far-fails (placeDown hs top) n b w₀ (top - s) w w′ r f as-down (top - 1) (omega arith) e
+    pub down-fails : 1 < s → r ≡ false → steps (placeDown hs top) (top - 1) (placing n b narrow₀) ≡ none
+    down-fails two e = so-far-fails (placeDown hs top) n b narrow₀ (top - s) narrow narrow′ r f as-down (top - 1) (omega arith) e
 
-  pub down-all : (s : ℕ) (w : List ℕ) → s ≤ top → s ≤ 1 → 0 < s → SoFar (placeDown hs top) (top - s) n b w₀ w → Stepped (steps (placeDown hs top) (top - 1) (placing n b w₀)) n b w₀ w true
-  down-all s w l one z f = so-far-all (placeDown hs top) n b w₀ (top - s) (top - 1) w (omega arith) f
+  pub down-all : (s : ℕ) (narrow : List ℕ) → s ≤ top → s ≤ 1 → 0 < s → SoFar (placeDown hs top) (top - s) n b narrow₀ narrow → Stepped (steps (placeDown hs top) (top - 1) (placing n b narrow₀)) n b narrow₀ narrow true
+  down-all s narrow l one z f = so-far-all (placeDown hs top) n b narrow₀ (top - s) (top - 1) narrow (omega arith) f
 
 -- the keys of bucket k, as they are lent, and whether two have equal hashes
-module _ (h w : List ℕ) (n b : ℕ) (B : Bench h w n b) (k : ℕ) (l : k < b) where
-  pub bench-lent : Keys (take n h) (part (n + getD w k 0) (n + getD w (k + 1) 0 - (n + getD w k 0)) h)
-  bench-lent = bench-ready h w n b B k l (part (n + getD w k 0) (n + getD w (k + 1) 0 - (n + getD w k 0)) h) (part (b + 1 + b) n w) (bench-group h w n b B k l) (bench-slots h w n b B k l) .of
+module _ (wide narrow : List ℕ) (n b : ℕ) (B : Bench wide narrow n b) (k : ℕ) (l : k < b) where
+  pub bench-lent : Keys (take n wide) (part (n + getD narrow k 0) (n + getD narrow (k + 1) 0 - (n + getD narrow k 0)) wide)
+  bench-lent = bench-ready wide narrow n b B k l (part (n + getD narrow k 0) (n + getD narrow (k + 1) 0 - (n + getD narrow k 0)) wide) (part (b + 1 + b) n narrow) (bench-group wide narrow n b B k l) (bench-slots wide narrow n b B k l) .of
 
-  pub bench-twins : (r : Bool) → r ≡ twins (take n h) (part (n + getD w k 0) (n + getD w (k + 1) 0 - (n + getD w k 0)) h) → twinsAt (take n h) k ≡ r
+  pub bench-twins : (r : Bool) → r ≡ twins (take n wide) (part (n + getD narrow k 0) (n + getD narrow (k + 1) 0 - (n + getD narrow k 0)) wide) → twinsAt (take n wide) k ≡ r
   unfolding twinsAt
-  bench-twins r e = ap (twins (take n h)) (sym (bench-group h w n b B k l)) ∙ sym e
+  bench-twins r e = ap (twins (take n wide)) (sym (bench-group wide narrow n b B k l)) ∙ sym e

@@ -9,7 +9,7 @@ use lib.ListN.{length}
 use Rattle.laws.proofs.StepsLaws.{least-found, least-before, least-none, least-of-none}
 use Rattle.construct.specs.Construct.{attempts, Placing, attemptOf, constructOf}
 use Rattle.construct.specs.Promised.{AllPlaced, Pilots}
-use Rattle.construct.specs.Layout.{constructedOf, constructedNumber, constructedValues, ConstructPost}
+use Rattle.construct.specs.Answer.{constructedOf, constructedNumber, constructedValues, ConstructPost}
 use Rattle.construct.specs.declared.Constructed.{Constructed}
 use Rattle.construct.proofs.Placed.{placed}
 use Rattle.construct.proofs.Choosing.{pilots-least}
@@ -38,7 +38,7 @@ module _ (hashes : ℕ → List ℕ) where
       (placed (hashes i) (pos i) pl (r .1), pilots-least (hashes i) (pos i) pl (r .1))
 
   -- 10 EXACTLY WHERE EACH OF THE EIGHT ATTEMPTS FAILS, of what the code answers
-  module _ (n : ℕ) (h w : List ℕ) (r : Constructed) (B : ConstructPost hashes n h w r) where
+  module _ (n : ℕ) (wide narrow : List ℕ) (r : Constructed) (B : ConstructPost hashes n wide narrow r) where
     pub ten-fails : constructedNumber r ≡ 10 → (i : ℕ) → i < 8 → attemptOf (hashes i) ≡ none
     ten-fails e = all-fail (unanswered (constructOf hashes) (ap constructedNumber (sym (B .answer)) ∙ e))
       where

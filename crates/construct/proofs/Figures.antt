@@ -14,8 +14,8 @@ pub one-bucket : (h : ℕ) → bucketOf h 1 ≡ 0
 one-bucket h = omega (arith, bucketOf-lt h 1 (omega arith))
 
 -- one key takes slot 0, named directly
-pub one-key : (h : ℕ) → attemptOf (h ∷ []) ≡ some (record { pilots = 2147483648 ∷ []; slots = 1 ∷ [] })
-unfolding attemptOf attemptFrom anyTwins twinsAt twins met alike anyBelow steps bind least maximum bucketsOf tries direct members group size settle spot seat pilotNoted placeGroup placeSingle placeOf placeSize placeDown largest blank
+pub one-key : (h : ℕ) → attemptOf (h ∷ []) ≡ some (record { pilots = direct ∷ []; slots = 1 ∷ [] })
+unfolding attemptOf attemptFrom anyTwins twinsAt twins met alike anyBelow steps bind least maximum bucketsOf tries members group size settle spot seat pilotNoted placeGroup placeSingle placeOf placeSize placeDown largest blank
 one-key h = simp one-bucket
 
 -- four keys in two buckets, one of which has three members

@@ -10,7 +10,8 @@ use lib.Seq.{take-suc-set}
 use Rattle.mixing.specs.Mixing.{hashOf}
 use Rattle.records.specs.Places.{keyAt, nextEntry, entryPlace}
 use Rattle.records.proofs.PassedLaws.{place-rises, place-next}
-use Rattle.construct.specs.Keys.{arenaKey, hashesOf, Entries}
+use Rattle.construct.specs.Keys.{arenaKey, hashesOf}
+use Rattle.construct.specs.Inner.Layout.{Entries}
 
 -- the entries begin at the start, and each where the last ends
 pub entry-first : (arena : List ℕ) → entryPlace arena 0 0 ≡ 0

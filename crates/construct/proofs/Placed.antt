@@ -46,7 +46,7 @@ index-by h pilots n b e = ap (λ (x : ℕ). slotBy h (getD pilots (bucketOf h x)
 
 -- every pilot that is tried is below the mark
 pub few : tries ≤ direct
-unfolding tries direct
+unfolding tries
 few = lit≤ tt
 
 -- the sizes of all buckets sum up to the keys

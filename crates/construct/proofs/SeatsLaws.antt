@@ -10,7 +10,7 @@ use lib.ListN.{length, getD, set}
 use lib.Seq.{set-set, set-getD}
 use Rattle.laws.proofs.StepsLaws.{steps-none, steps-more, steps-failed, steps-last, least-at, least-of-none}
 use Rattle.construct.specs.Construct.{tries, settle, spot, seat}
-use Rattle.construct.specs.Seating.{SeatedTo, SeatTried, PilotSearched}
+use Rattle.construct.specs.Inner.Seating.{SeatedTo, SeatTried, PilotSearched}
 use Rattle.construct.proofs.SlotsLaws.{settle-free, settle-taken, settle-some}
 
 module _ (hs ms : List ℕ) (p : ℕ) where

@@ -8,7 +8,8 @@ use lib.Dec.{eqb}
 use Rattle.mixing.specs.Mixing.{bucketOf, positionOf}
 use Rattle.laws.specs.Steps.{steps, least, anyBelow, maximum}
 -- the buckets of n keys, the mark of a pilot that names a slot, and the slot that a pilot gives a hash
-unfoldable pub use Rattle.mixing.specs.Slots.{bucketsOf, direct, slotBy}
+unfoldable pub use Rattle.mixing.specs.Slots.{bucketsOf, slotBy}
+pub use Rattle.mixing.specs.Slots.{direct}
 
 -- pilots 0 to 99,999 are tried
 unfoldable pub tries : ℕ

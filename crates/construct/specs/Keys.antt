@@ -1,7 +1,6 @@
 -- The hashes of an arena's keys under a seed (document 01, "Layouts" and "Arithmetic and construction").
-use Prim.Native.Nat.{ℕ, zero, suc, _≤_}
+use Prim.Native.Nat.{ℕ, zero, suc}
 use mathlib.Core.List.{List, [], _∷_, _++_}
-use lib.ListN.{length}
 use Rattle.mixing.specs.Mixing.{hashOf, seedOf}
 use Rattle.records.specs.Places.{keyAt, entryPlace}
 
@@ -17,7 +16,3 @@ hashesOf seed arena (suc i) = hashesOf seed arena i ++ (hashOf seed (arenaKey ar
 -- the hashes under the seed of attempt i
 unfoldable pub attemptHashes : List ℕ → ℕ → ℕ → List ℕ
 attemptHashes arena n i = hashesOf (seedOf i) arena n
-
--- the first n entries lie inside the arena
-abbrev pub Entries : List ℕ → ℕ → Type 0
-Entries arena n = entryPlace arena 0 n ≤ length arena

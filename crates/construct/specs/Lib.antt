@@ -1,5 +1,5 @@
 pub mod Construct
 pub mod Keys
-pub mod Seating
-pub mod Layout
+pub mod Answer
 pub mod Promised
+pub mod Inner

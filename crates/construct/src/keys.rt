@@ -6,7 +6,8 @@ ghost use Prim.Native.Nat.{_≤_};
 ghost use lib.ListN.{length};
 ghost use Rattle.mixing.specs.Mixing.{hashOf};
 ghost use Rattle.records.specs.Places.{keyAt, nextEntry};
-ghost use Rattle.construct.specs.Keys.{hashesOf, Entries};
+ghost use Rattle.construct.specs.Keys.{hashesOf};
+ghost use Rattle.construct.specs.Inner.Layout.{Entries};
 
 // The hash of the key of the entry at p.
 fn hash_at(arena: &[u8], p: usize, seed: u64) -> u64

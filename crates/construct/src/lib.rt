@@ -11,7 +11,8 @@ pub mod twins;
 use attempt::attempt;
 use mixing::slot::buckets;
 ghost use Rattle.construct.specs.Keys.{attemptHashes};
-ghost use Rattle.construct.specs.Layout.{Lent, ConstructPost};
+ghost use Rattle.construct.specs.Inner.Layout.{Lent};
+ghost use Rattle.construct.specs.Answer.{ConstructPost};
 
 // What construct answers: the attempt that is taken, from 0, or that every attempt failed.
 pub enum Constructed {
@@ -28,14 +29,14 @@ impl Constructed {
 }
 
 // Places the first n keys of the arena under the first seed that serves. Where one does, its hashes, pilots and slots are left in the workspace.
-pub fn construct(arena: &[u8], h: &mut [u64], w: &mut [u32], n: usize) -> Constructed
-    requires { ⌜ Lent (now arena) (now h) (now w) n ⌝ }
-    ensures { λ r. ⌜ ConstructPost (attemptHashes (now (arena .entry)) n) n (now (h .exit)) (now (w .exit)) r ⌝ }
+pub fn construct(arena: &[u8], wide: &mut [u64], narrow: &mut [u32], n: usize) -> Constructed
+    requires { ⌜ Lent (now arena) (now wide) (now narrow) n ⌝ }
+    ensures { λ r. ⌜ ConstructPost (attemptHashes (now (arena .entry)) n) n (now (wide .exit)) (now (narrow .exit)) r ⌝ }
 {
     let b = buckets(n);
     let mut i = 0;
     while i < Constructed::ATTEMPTS {
-        if attempt(arena, h, w, n, b, mixing::seed(i)) {
+        if attempt(arena, wide, narrow, n, b, mixing::seed(i)) {
             return Constructed::Placed(i);
         }
         i += 1;

@@ -6,7 +6,7 @@ ghost use mathlib.Core.Option.{some};
 ghost use Prim.Native.Nat.{ℕ, _<_, _≤_};
 ghost use lib.ListN.{length, getD};
 ghost use Rattle.construct.specs.Construct.{seat, spot};
-ghost use Rattle.construct.specs.Seating.{Keys, SeatsReady, SeatedTo, SeatTried, PilotSearched};
+ghost use Rattle.construct.specs.Inner.Seating.{Keys, SeatsReady, SeatedTo, SeatTried, PilotSearched};
 
 // The hash of member j.
 pub fn hash_of(hs: &[u64], ms: &[u64], j: usize) -> u64

@@ -4,24 +4,23 @@ use Prim.Native.Nat.{ℕ, zero, suc, _+_, _-_, _^_, _<_, _≤_}
 use native.Mathlib.Nat.{add-zero}
 use native.Mathlib.Omega.{arith}
 use mathlib.Core.Path.{_≡_, refl, sym, ap, ap₂, _∙_, subst}
-use mathlib.Core.Bool.{Bool, true, false, cond}
+use mathlib.Core.Bool.{Bool, false, cond}
 use mathlib.Core.List.{List, [], _∷_, _++_, flatMap}
 use mathlib.Core.Option.{Option, none, some}
 use mathlib.Core.Logic.{⊎-elim}
-use lib.ListN.{length, getD, take, drop, List·getD-eq-default}
+use lib.ListN.{length, getD, drop, List·getD-eq-default}
 use lib.Seq.{drop-at}
-use borrow.Author.Tests.{eq-eqb, ne-eqb, lt-leb}
+use borrow.Author.Tests.{lt-leb}
 use Rattle.laws.proofs.Cases.{lt-or-ge}
 use Rattle.laws.proofs.RefusalLaws.{orElse-zero}
+use Rattle.numbers.specs.Limits.{mostKeys}
 use Rattle.words.specs.Field.{bytesOf}
-use Rattle.words.specs.Part.{sameAs}
 use Rattle.words.proofs.Laws.{bytes-bytesOf, bytes-append}
 use Rattle.words.specs.Field.{AllBytes}
-use Rattle.words.proofs.Ordered.{same-self}
 use Rattle.mixing.specs.Mixing.{hashOf, fingerprintOf, seedOf, bucketOf, bucketOf-lt, seedOf-lt}
 use Rattle.mixing.proofs.SlotLaws.{some-buckets}
-use Rattle.layout.specs.Layout.{indexMagic, slotAt, seedIn, keysIn, bucketsIn, arenaIn, dimensionRefusal, headerRefusal, pilotAt, directPast, pilotOf, slotOf, slotPlace, recordOffset, fingerprintWide}
-use Rattle.layout.proofs.HeaderLaws.{magic-is, header-on, passes}
+use Rattle.layout.specs.Layout.{indexMagic, seedIn, keysIn, bucketsIn, arenaIn, headerRefusal, pilotAt, directPast, pilotOf, slotOf, slotPlace, recordOffset, fingerprintWide}
+use Rattle.layout.proofs.HeaderLaws.{passes, seed-read, keys-read, buckets-read, start-read, header-fine}
 use Rattle.records.specs.declared.DataLength.the-variants.{Untested}
 use Rattle.records.specs.declared.Limit.{Limit}
 use Rattle.records.specs.Model.{Entry, tableBytes, lookup}
@@ -46,11 +45,11 @@ use Rattle.finish.specs.declared.Finished.the-variants.{Body}
 use Rattle.finish.specs.Body.{arenaStart, headerBytes, pilotsBytes, slotBytes, heldSlot, slotsBytes, bodyBytes, placedOf, bodyFrom, bodyOf}
 use Rattle.finish.specs.Finish.{walked, keysOf, unplaced, lengthsRefusal, placingRefusal, finishRefusal, answered, bodyLength, finishOf}
 use Rattle.finish.proofs.LengthLaws.{Lengths, lengths}
-use Rattle.finish.proofs.BodyLaws.{body-long, start-is}
+use Rattle.finish.proofs.BodyLaws.{body-long}
 use Rattle.finish.proofs.FinishLaws.{refused-by, hash-at}
 use Rattle.finish.proofs.SelfCheck.{placed-whole}
 use Rattle.finish.proofs.ShiftLaws.{key-moved, entries-moved, place-moved}
-use Rattle.finish.proofs.FieldLaws.{magic-read, seed-read, keys-read, buckets-read, start-read, pilot-read, offset-read, print-read, before-arena}
+use Rattle.finish.proofs.FieldLaws.{pilot-read, offset-read, print-read, before-arena}
 
 -- ---- an arena that finish takes
 
@@ -60,7 +59,7 @@ pub record Made (arena : List ℕ) : Type 0 where
   pub taken : placedOf arena (keysOf arena) ≡ some (attempt, placing)
   pub whole : walked arena .end ≡ length arena
   pub any : 0 < keysOf arena
-  pub most : keysOf arena ≤ 65536
+  pub most : keysOf arena ≤ mostKeys
 
 module _ (arena : List ℕ) (out wide narrow k : ℕ) where
   -- a body is answered where nothing refuses, with its length
@@ -86,13 +85,7 @@ module _ (arena : List ℕ) (out wide narrow k : ℕ) where
       go none q z = absurd (let t : _≡_ {A = ℕ} 0 1 = cc in omega arith)
       go (some (i, pl)) q z = record { attempt = i; placing = pl; taken = q; whole = L .whole; any = L .some; most = L .few }
 
--- ---- header and pilots
-
-dimensions-fine : (total n b start : ℕ) → 0 < n → n < 2147483648 → b ≡ bucketsOf n → start ≡ slotAt b n → start < total → 0 ≡ dimensionRefusal total n b start
-unfolding dimensionRefusal
-dimensions-fine total n b start h1 h2 e1 e2 h3 =
-    let ne : n ≡ 0 → ⊥ = λ z. omega arith in
-    rw (ne-eqb n 0 ne, lt-leb 2147483648 n h2, eq-eqb b (bucketsOf n) e1, eq-eqb start (slotAt b n) e2, lt-leb total start h3)
+-- ---- pilots
 
 pilots-fine : (body : List ℕ) (n i k : ℕ) → ((j : ℕ) → j < i + k → directPast n (pilotAt body j) ≡ false) → pilotsRefusal body n i k ≡ 0
 unfolding pilotsRefusal
@@ -100,11 +93,10 @@ pilots-fine body n i zero h = refl
 pilots-fine body n i (suc k) h = ap (λ (t : Bool). cond t 22 (pilotsRefusal body n (suc i) k)) (h i (omega arith)) ∙ pilots-fine body n (suc i) k (λ j l. h j (omega arith))
 
 -- every pilot of an attempt is below 2^31 + n
-pilot-low : (hs pilots : List ℕ) → Pilots hs pilots → (k : ℕ) → k < bucketsOf (length hs) → getD pilots k 0 < 2147483648 + length hs
-unfolding direct
+pilot-low : (hs pilots : List ℕ) → Pilots hs pilots → (k : ℕ) → k < bucketsOf (length hs) → getD pilots k 0 < direct + length hs
 pilot-low hs pilots P k l = go (size hs k) refl
   where
-    go : (x : ℕ) → size hs k ≡ x → getD pilots k 0 < 2147483648 + length hs
+    go : (x : ℕ) → size hs k ≡ x → getD pilots k 0 < direct + length hs
     go zero e = omega (arith, P .empty k l e)
     go (suc zero) e = let s = P .single k l e in omega (arith, s .named, s .low)
     go (suc (suc y)) e = let s = P .several k l (omega arith) in omega (arith, s .tried)
@@ -189,21 +181,25 @@ module _ (arena : List ℕ) (M : Made arena) (all : AllBytes arena) where
   unfolding front seed n
   front-long = before-arena arena (keysOf arena) seed (M .placing) (M .most) pilots-many slots-many .1
 
+  low : n < 2 ^ 32
+  unfolding n
+  low = omega (arith, M .most)
+
   start-of : arenaIn body ≡ length front
-  unfolding body seed n
-  start-of = start-read arena (keysOf arena) seed (M .placing) (M .most) ∙ sym front-long
+  unfolding body bodyBytes seed n
+  start-of = start-read seed n low _ ∙ sym front-long
 
   keys-of : keysIn body ≡ n
-  unfolding body n
-  keys-of = keys-read arena (keysOf arena) (seedOf (M .attempt)) (M .placing) (M .most)
+  unfolding body bodyBytes n
+  keys-of = keys-read _ n low _
 
   buckets-of : bucketsIn body ≡ bucketsOf n
-  unfolding body n
-  buckets-of = buckets-read arena (keysOf arena) (seedOf (M .attempt)) (M .placing) (M .most)
+  unfolding body bodyBytes n
+  buckets-of = buckets-read _ n low _
 
   seed-of : seedIn body ≡ seed
-  unfolding body seed
-  seed-of = seed-read arena (keysOf arena) (seedOf (M .attempt)) (M .placing) (M .most) (seedOf-lt (M .attempt))
+  unfolding body bodyBytes seed n
+  seed-of = seed-read _ n low _ (seedOf-lt (M .attempt))
 
   -- the table of the arena
   t : List Entry
@@ -249,10 +245,10 @@ module _ (arena : List ℕ) (M : Made arena) (all : AllBytes arena) where
   any-key = M .any
 
   -- the pilot of a hash, and its slot
-  pilot-at : (k : ℕ) → k < bucketsOf n → (pilotAt body k ≡ getD (M .placing .pilots) k 0) × (getD (M .placing .pilots) k 0 < 2147483648 + n)
+  pilot-at : (k : ℕ) → k < bucketsOf n → (pilotAt body k ≡ getD (M .placing .pilots) k 0) × (getD (M .placing .pilots) k 0 < direct + n)
   unfolding body n
   pilot-at k l =
-      let low : getD (M .placing .pilots) k 0 < 2147483648 + keysOf arena = omega (arith, pilot-low hs (M .placing .pilots) least k (omega (arith, ap bucketsOf hashes-many)), hashes-many) in
+      let low : getD (M .placing .pilots) k 0 < direct + keysOf arena = omega (arith, pilot-low hs (M .placing .pilots) least k (omega (arith, ap bucketsOf hashes-many)), hashes-many) in
       let most = M .most in
       (pilot-read arena (keysOf arena) (seedOf (M .attempt)) (M .placing) (M .most) k (omega (arith, pilots-many)) (omega arith), low)
 
@@ -311,30 +307,23 @@ module _ (arena : List ℕ) (M : Made arena) (all : AllBytes arena) where
   unfolding body n
   long = body-long arena (keysOf arena) (seedOf (M .attempt)) (M .placing) pilots-many slots-many
 
-  magic-of : take 8 body ≡ indexMagic
-  unfolding body
-  magic-of = magic-read arena (keysOf arena) (seedOf (M .attempt)) (M .placing) (M .most)
-
-  header-fine : headerRefusal body ≡ 0
-  unfolding n bucketsOf
-  header-fine =
-      let st = start-is n (bucketsOf n) refl in
+  header-passed : headerRefusal body ≡ 0
+  unfolding body bodyBytes n
+  header-passed =
       let some = some-arena in
       let most = M .most in
-      header-on body 0 0 n (bucketsOf n) (arenaStart n)
-      (sym (magic-is body true (omega (arith, long)) (ap (λ (z : List ℕ). sameAs z indexMagic) magic-of ∙ same-self indexMagic))) refl (sym keys-of) (sym buckets-of) (sym (start-of ∙ front-long))
-      (dimensions-fine (length body) n (bucketsOf n) (arenaStart n) any-key (omega arith) refl st (omega (arith, long)))
+      header-fine _ _ (omega arith) _ (M .any) (omega arith) (omega (arith, long))
 
   pilots-passed : pilotsRefusal body (keysIn body) 0 (bucketsIn body) ≡ 0
   pilots-passed =
       ap₂ (λ (x y : ℕ). pilotsRefusal body x 0 y) keys-of buckets-of
-      ∙ pilots-fine body n 0 (bucketsOf n) (λ j l. let p = pilot-at j (omega arith) in ap (directPast n) (p .0) ∙ lt-leb (2147483648 + n) (getD (M .placing .pilots) j 0) (p .1))
+      ∙ pilots-fine body n 0 (bucketsOf n) (λ j l. let p = pilot-at j (omega arith) in ap (directPast n) (p .0) ∙ lt-leb (direct + n) (getD (M .placing .pilots) j 0) (p .1))
 
   -- THEOREM: the body is accepted with any data that covers the arena's records
   made-accepted : (cover : ℕ) → TableInData cover t → validateOf body cover ≡ Accepted
   unfolding t n
   made-accepted cover h =
-      accepts body cover t header-fine pilots-passed (entries-count arena 0 (keysOf arena) ∙ sym keys-of)
+      accepts body cover t header-passed pilots-passed (entries-count arena 0 (keysOf arena) ∙ sym keys-of)
       (ap₂ drop start-of split ∙ drop-at front arena (length front) refl ∙ table-bytes)
       (table-tested Untested cover t table-rules h) (λ j l. belongs j (omega (arith, keys-of)))
 

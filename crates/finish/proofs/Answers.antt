@@ -23,7 +23,7 @@ use Rattle.construct.proofs.Failing.{fails-attempt, attempt-fails}
 use Rattle.construct.proofs.Exhausting.{all-fail, none-left}
 use Rattle.finish.specs.declared.Finished.{Finished}
 use Rattle.finish.specs.Body.{placedOf}
-use Rattle.finish.specs.Finish.{walked, keysOf, walkedCauses, walkedRefusal, unplaced, mismatched, placingCauses, lengthsRefusal, placingRefusal, finishCauses, finishRefusal, answered, bodyLength, finishOf, FinishPost, finishedNumber, finishedValues}
+use Rattle.finish.specs.Finish.{walked, keysOf, walkedCauses, walkedRefusal, unplaced, mismatched, placingCauses, lengthsRefusal, placingRefusal, finishCauses, finishRefusal, answered, bodyLength, finishOf, FinishPost, SameResult, finishedNumber, finishedValues}
 use Rattle.finish.proofs.LengthLaws.{lengths}
 use Rattle.finish.proofs.FinishLaws.{refused-by, refused-late}
 use Rattle.finish.proofs.SelfCheck.{check-passes}
@@ -136,18 +136,11 @@ body-or-ten arena out wide narrow any z = go (placedOf arena (keysOf arena)) ref
     go none q e = inr (e ∙ rw q)
     go (some (i, pl)) q e = inl (e ∙ rw (q, check-passes arena (keysOf arena) i pl any q))
 
--- two results that meet the contract are the same
-pub record SameResult (r s : Finished) (o p w x u v : List ℕ) : Type 0 where
-  pub answer : r ≡ s
-  pub out : o ≡ p
-  pub wide : w ≡ x
-  pub narrow : u ≡ v
-
 -- THEOREM: finish's answer and every lent byte are fixed
-pub finish-one : (arena o w u : List ℕ) (r s : Finished) (o1 o2 w1 w2 u1 u2 : List ℕ) → FinishPost arena o w u r o1 w1 u1 → FinishPost arena o w u s o2 w2 u2 → SameResult r s o1 o2 w1 w2 u1 u2
-finish-one arena o w u r s o1 o2 w1 w2 u1 u2 p q = record {
+pub finish-one : (arena out wide narrow : List ℕ) (r s : Finished) (o1 o2 w1 w2 u1 u2 : List ℕ) → FinishPost arena out wide narrow r o1 w1 u1 → FinishPost arena out wide narrow s o2 w2 u2 → SameResult r s o1 o2 w1 w2 u1 u2
+finish-one arena out wide narrow r s o1 o2 w1 w2 u1 u2 p q = record {
   answer = p .answer ∙ sym (q .answer);
-  out = p .out ∙ sym (q .out);
-  wide = p .wide ∙ sym (q .wide);
-  narrow = p .narrow ∙ sym (q .narrow);
+  out-same = p .out-after ∙ sym (q .out-after);
+  wide-same = p .wide-after ∙ sym (q .wide-after);
+  narrow-same = p .narrow-after ∙ sym (q .narrow-after);
 }

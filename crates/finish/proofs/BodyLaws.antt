@@ -3,7 +3,7 @@ use Prim.Native.Nat.{ℕ, _+_, _-_, _*_, _≤_, _<_}
 use native.Mathlib.Decide.{ℕ-discrete}
 use native.Mathlib.Numerals.{lt-of-le-of-ne}
 use native.Mathlib.Omega.{arith}
-use mathlib.Core.Path.{_≡_, refl, sym, ap, ap₂, _∙_, subst}
+use mathlib.Core.Path.{_≡_, sym, ap, ap₂, _∙_, subst}
 use mathlib.Core.List.{List, _++_, flatMap, append-assoc}
 use lib.ListN.{length, getD, set, take, drop, length-append, length-drop}
 use lib.Seq.{getD-set-same, getD-set-other, length-take-le}
@@ -11,19 +11,15 @@ use Rattle.words.specs.Field.{bytesOf, splice}
 use Rattle.words.proofs.Laws.{length-bytesOf, splice-then}
 use Rattle.mixing.specs.Mixing.{fingerprintOf}
 use Rattle.mixing.proofs.SlotLaws.{few-buckets}
-use Rattle.layout.specs.Layout.{indexMagic}
+use Rattle.layout.proofs.HeaderLaws.{header-long, start-is}
 use Rattle.records.specs.Places.{entryPlace}
 use Rattle.construct.specs.Construct.{bucketsOf, Placing}
-use Rattle.construct.specs.Layout.{placing}
+use Rattle.construct.specs.Answer.{placing}
 use Rattle.finish.specs.Body.{arenaStart, headerBytes, pilotsBytes, slotBytes, heldSlot, slotsBytes, bodyBytes}
-use Rattle.finish.specs.Needs.{Room, PlacesListed, listedSlot, Filled, SlotsKnown}
+use Rattle.finish.specs.Inner.Needs.{Room, PlacesListed, listedSlot, Filled, SlotsKnown}
 use Rattle.finish.proofs.RowLaws.{flat-same, flat-long}
 
 -- ---- lengths
-
-pub header-long : (seed n : ℕ) → length (headerBytes seed n) ≡ 32
-unfolding headerBytes
-header-long seed n = simp (length-append, length-bytesOf)
 
 pub slot-long : (offset fingerprint : ℕ) → length (slotBytes offset fingerprint) ≡ 12
 unfolding slotBytes
@@ -33,9 +29,9 @@ pub held-long : (arena : List ℕ) (seed held : ℕ) → length (heldSlot arena 
 unfolding heldSlot
 held-long arena seed held = slot-long _ _
 
-pub listed-long : (h : List ℕ) (n held : ℕ) → length (listedSlot h n held) ≡ 12
+pub listed-long : (wide : List ℕ) (n held : ℕ) → length (listedSlot wide n held) ≡ 12
 unfolding listedSlot
-listed-long h n held = slot-long _ _
+listed-long wide n held = slot-long _ _
 
 pub pilots-long : (pilots : List ℕ) → length (pilotsBytes pilots) ≡ 4 * length pilots
 unfolding pilotsBytes
@@ -49,27 +45,7 @@ pub body-long : (arena : List ℕ) (n seed : ℕ) (pl : Placing) → length (pl 
 unfolding bodyBytes arenaStart
 body-long arena n seed pl ep es = simp (length-append, header-long, pilots-long, slots-long) (omega arith)
 
--- the arena start, by the number of buckets
-pub start-is : (n b : ℕ) → b ≡ bucketsOf n → arenaStart n ≡ 32 + 4 * b + 12 * n
-unfolding arenaStart
-start-is n b e = omega arith
-
 -- ---- parts written one after another
-
-pub header-written : (o0 o1 o2 o3 o4 o5 : List ℕ) (n seed b start : ℕ) → 32 ≤ length o0 → b ≡ bucketsOf n → start ≡ arenaStart n → o1 ≡ splice o0 0 indexMagic → o2 ≡ splice o1 8 (bytesOf 8 seed)
-    → o3 ≡ splice o2 16 (bytesOf 4 n) → o4 ≡ splice o3 20 (bytesOf 4 b) → o5 ≡ splice o4 24 (bytesOf 8 start) → o5 ≡ splice o0 0 (headerBytes seed n)
-unfolding headerBytes
-header-written o0 o1 o2 o3 o4 o5 n seed b start h eb es e1 e2 e3 e4 e5 =
-    let m2 = indexMagic ++ bytesOf 8 seed in
-    let m3 = m2 ++ bytesOf 4 n in
-    let m4 = m3 ++ bytesOf 4 b in
-    let l2 : length m2 ≡ 16 = simp (length-append, length-bytesOf) in
-    let l3 : length m3 ≡ 20 = simp (length-append, length-bytesOf) in
-    let l4 : length m4 ≡ 24 = simp (length-append, length-bytesOf) in
-    let q2 : o2 ≡ splice o0 0 m2 = e2 ∙ ap (λ (z : List ℕ). splice z 8 (bytesOf 8 seed)) e1 ∙ splice-then o0 0 indexMagic 8 (bytesOf 8 seed) (omega arith) refl in
-    let q3 : o3 ≡ splice o0 0 m3 = e3 ∙ ap (λ (z : List ℕ). splice z 16 (bytesOf 4 n)) q2 ∙ splice-then o0 0 m2 16 (bytesOf 4 n) (omega arith) (omega arith) in
-    let q4 : o4 ≡ splice o0 0 m4 = e4 ∙ ap (λ (z : List ℕ). splice z 20 (bytesOf 4 b)) q3 ∙ splice-then o0 0 m3 20 (bytesOf 4 b) (omega arith) (omega arith) in
-    e5 ∙ ap (λ (z : List ℕ). splice z 24 (bytesOf 8 start)) q4 ∙ splice-then o0 0 m4 24 (bytesOf 8 start) (omega arith) (omega arith) ∙ ap (splice o0 0) (simp append-assoc (rw (eb, es)))
 
 pub slot-written : (o0 o1 o2 o3 : List ℕ) (at offset fingerprint : ℕ) → at + 12 ≤ length o0 → o1 ≡ splice o0 at (bytesOf 8 offset) → o2 ≡ splice o1 (at + 8) (bytesOf 2 fingerprint)
     → o3 ≡ splice o2 (at + 10) (bytesOf 2 0) → o3 ≡ splice o0 at (slotBytes offset fingerprint)
@@ -83,25 +59,25 @@ slot-written o0 o1 o2 o3 at offset fingerprint h e1 e2 e3 =
 
 -- ---- places listed one after another
 
-pub listed-more : (arena h h0 : List ℕ) (n i p : ℕ) → i < n → length h ≡ n + n → p ≡ entryPlace arena 0 i
-    → ((m : ℕ) → m < n → getD h m 0 ≡ getD h0 m 0) → ((m : ℕ) → m < i → getD h (n + m) 0 ≡ entryPlace arena 0 m)
-    → ((m : ℕ) → m < n → getD (set h (n + i) p) m 0 ≡ getD h0 m 0) × ((m : ℕ) → m < i + 1 → getD (set h (n + i) p) (n + m) 0 ≡ entryPlace arena 0 m)
-listed-more arena h h0 n i p l len e keep so = (
-  λ m lm. getD-set-other h (n + i) m p 0 (λ z. omega arith) ∙ keep m lm,
+pub listed-more : (arena wide wide₀ : List ℕ) (n i p : ℕ) → i < n → length wide ≡ n + n → p ≡ entryPlace arena 0 i
+    → ((m : ℕ) → m < n → getD wide m 0 ≡ getD wide₀ m 0) → ((m : ℕ) → m < i → getD wide (n + m) 0 ≡ entryPlace arena 0 m)
+    → ((m : ℕ) → m < n → getD (set wide (n + i) p) m 0 ≡ getD wide₀ m 0) × ((m : ℕ) → m < i + 1 → getD (set wide (n + i) p) (n + m) 0 ≡ entryPlace arena 0 m)
+listed-more arena wide wide₀ n i p l len e keep so = (
+  λ m lm. getD-set-other wide (n + i) m p 0 (λ z. omega arith) ∙ keep m lm,
   λ m lm. here m lm (ℕ-discrete m i),
 )
   where
-    here : (m : ℕ) → m < i + 1 → Dec (m ≡ i) → getD (set h (n + i) p) (n + m) 0 ≡ entryPlace arena 0 m
-    here m lm (yes z) = ap (λ (x : ℕ). getD (set h (n + i) p) (n + x) 0) z ∙ getD-set-same h (n + i) p 0 (omega arith) ∙ e ∙ ap (entryPlace arena 0) (sym z)
-    here m lm (no z) = getD-set-other h (n + i) (n + m) p 0 (λ q. z (omega arith)) ∙ so m (lt-of-le-of-ne (omega arith) z)
+    here : (m : ℕ) → m < i + 1 → Dec (m ≡ i) → getD (set wide (n + i) p) (n + m) 0 ≡ entryPlace arena 0 m
+    here m lm (yes z) = ap (λ (x : ℕ). getD (set wide (n + i) p) (n + x) 0) z ∙ getD-set-same wide (n + i) p 0 (omega arith) ∙ e ∙ ap (entryPlace arena 0) (sym z)
+    here m lm (no z) = getD-set-other wide (n + i) (n + m) p 0 (λ q. z (omega arith)) ∙ so m (lt-of-le-of-ne (omega arith) z)
 
 -- the slots by what the workspace holds are the slots of the keys
-pub slots-listed : (arena h h′ w : List ℕ) (n seed : ℕ) → PlacesListed arena n h h′ → SlotsKnown arena h w n seed → (slots : List ℕ) → Filled n slots
-    → flatMap (listedSlot h′ n) slots ≡ slotsBytes arena seed slots
+pub slots-listed : (arena wide wide′ narrow : List ℕ) (n seed : ℕ) → PlacesListed arena n wide wide′ → SlotsKnown arena wide narrow n seed → (slots : List ℕ) → Filled n slots
+    → flatMap (listedSlot wide′ n) slots ≡ slotsBytes arena seed slots
 unfolding slotsBytes listedSlot heldSlot
-slots-listed arena h h′ w n seed L W slots F = flat-same (listedSlot h′ n) (heldSlot arena seed) slots same
+slots-listed arena wide wide′ narrow n seed L W slots F = flat-same (listedSlot wide′ n) (heldSlot arena seed) slots same
   where
-    same : (s : ℕ) → s < length slots → listedSlot h′ n (getD slots s 0) ≡ heldSlot arena seed (getD slots s 0)
+    same : (s : ℕ) → s < length slots → listedSlot wide′ n (getD slots s 0) ≡ heldSlot arena seed (getD slots s 0)
     same s l =
         let m = getD slots s 0 - 1 in
         let low : m < n = omega (arith, F .filled s l, F .keys s l) in
@@ -109,30 +85,30 @@ slots-listed arena h h′ w n seed L W slots F = flat-same (listedSlot h′ n) (
 
 -- ---- parts of the words of 32 bits
 
-pub part-long : (w : List ℕ) (from size to : ℕ) → to ≡ from + size → to ≤ length w → length (take (to - from) (drop from w)) ≡ size
-part-long w from size to e h = length-take-le (to - from) (drop from w) (simp length-drop (omega arith)) ∙ omega arith
+pub part-long : (words : List ℕ) (from size to : ℕ) → to ≡ from + size → to ≤ length words → length (take (to - from) (drop from words)) ≡ size
+part-long words from size to e h = length-take-le (to - from) (drop from words) (simp length-drop (omega arith)) ∙ omega arith
 
-module _ (w : List ℕ) (n b : ℕ) (e : b ≡ bucketsOf n) where
-  pub pilots-part : (from to : ℕ) → from ≡ b + 1 → to ≡ from + b → take (to - from) (drop from w) ≡ placing n (bucketsOf n) w .pilots
+module _ (narrow : List ℕ) (n b : ℕ) (e : b ≡ bucketsOf n) where
+  pub pilots-part : (from to : ℕ) → from ≡ b + 1 → to ≡ from + b → take (to - from) (drop from narrow) ≡ placing n (bucketsOf n) narrow .pilots
   unfolding placing
   pilots-part from to ef et =
       let q : to - from ≡ b = omega arith in
       rw (q, ef, e)
 
-  pub slots-part : (from to : ℕ) → from ≡ b + 1 + b → to ≡ from + n → take (to - from) (drop from w) ≡ placing n (bucketsOf n) w .slots
+  pub slots-part : (from to : ℕ) → from ≡ b + 1 + b → to ≡ from + n → take (to - from) (drop from narrow) ≡ placing n (bucketsOf n) narrow .slots
   unfolding placing
   slots-part from to ef et =
       let q : to - from ≡ n = omega arith in
       rw (q, ef, e)
 
-module _ (arena out h w : List ℕ) (n : ℕ) (R : Room arena out h w n) where
-  pub room-pilots : length (placing n (bucketsOf n) w .pilots) ≡ bucketsOf n
+module _ (arena out wide narrow : List ℕ) (n : ℕ) (R : Room arena out wide narrow n) where
+  pub room-pilots : length (placing n (bucketsOf n) narrow .pilots) ≡ bucketsOf n
   unfolding placing
-  room-pilots = length-take-le (bucketsOf n) (drop (bucketsOf n + 1) w) (simp length-drop (omega (arith, few-buckets n, R .words)))
+  room-pilots = length-take-le (bucketsOf n) (drop (bucketsOf n + 1) narrow) (simp length-drop (omega (arith, few-buckets n, R .words)))
 
-  pub room-slots : length (placing n (bucketsOf n) w .slots) ≡ n
+  pub room-slots : length (placing n (bucketsOf n) narrow .slots) ≡ n
   unfolding placing
-  room-slots = length-take-le n (drop (bucketsOf n + 1 + bucketsOf n) w) (simp length-drop (omega (arith, few-buckets n, R .words)))
+  room-slots = length-take-le n (drop (bucketsOf n + 1 + bucketsOf n) narrow) (simp length-drop (omega (arith, few-buckets n, R .words)))
 
   -- the room before the arena, by the number of buckets
   pub room-start : (b : ℕ) → b ≡ bucketsOf n → 32 + 4 * b + 12 * n + length arena ≤ length out
@@ -146,32 +122,32 @@ front-written o0 o1 o2 n seed pilots h e1 e2 =
     let l = header-long seed n in
     e2 ∙ ap (λ (z : List ℕ). splice z 32 (pilotsBytes pilots)) e1 ∙ splice-then o0 0 (headerBytes seed n) 32 (pilotsBytes pilots) (omega arith) (omega arith)
 
-pub body-written : (arena o0 o1 o2 o3 h h′ w : List ℕ) (n seed b start : ℕ) (pilots slots : List ℕ) → Room arena o0 h w n → SlotsKnown arena h w n seed → PlacesListed arena n h h′ → b ≡ bucketsOf n → start ≡ arenaStart n
-    → pilots ≡ placing n (bucketsOf n) w .pilots → slots ≡ placing n (bucketsOf n) w .slots
-    → o1 ≡ splice o0 0 (headerBytes seed n ++ pilotsBytes pilots) → o2 ≡ splice o1 (32 + 4 * b) (flatMap (listedSlot h′ (length slots)) slots) → o3 ≡ splice o2 start arena
-    → o3 ≡ splice o0 0 (bodyBytes arena n seed (placing n (bucketsOf n) w))
+pub body-written : (arena o0 o1 o2 o3 wide wide′ narrow : List ℕ) (n seed b start : ℕ) (pilots slots : List ℕ) → Room arena o0 wide narrow n → SlotsKnown arena wide narrow n seed → PlacesListed arena n wide wide′ → b ≡ bucketsOf n → start ≡ arenaStart n
+    → pilots ≡ placing n (bucketsOf n) narrow .pilots → slots ≡ placing n (bucketsOf n) narrow .slots
+    → o1 ≡ splice o0 0 (headerBytes seed n ++ pilotsBytes pilots) → o2 ≡ splice o1 (32 + 4 * b) (flatMap (listedSlot wide′ (length slots)) slots) → o3 ≡ splice o2 start arena
+    → o3 ≡ splice o0 0 (bodyBytes arena n seed (placing n (bucketsOf n) narrow))
 unfolding bodyBytes
-body-written arena o0 o1 o2 o3 h h′ w n seed b start pilots slots R W L eb es ep eq e1 e2 e3 =
-    let P = placing n (bucketsOf n) w .pilots in
-    let S = placing n (bucketsOf n) w .slots in
+body-written arena o0 o1 o2 o3 wide wide′ narrow n seed b start pilots slots R W L eb es ep eq e1 e2 e3 =
+    let P = placing n (bucketsOf n) narrow .pilots in
+    let S = placing n (bucketsOf n) narrow .slots in
     let front = headerBytes seed n ++ pilotsBytes P in
     let body = slotsBytes arena seed S in
-    let lp = room-pilots arena o0 h w n R in
-    let ls = room-slots arena o0 h w n R in
+    let lp = room-pilots arena o0 wide narrow n R in
+    let ls = room-slots arena o0 wide narrow n R in
     let lf : length front ≡ 32 + 4 * b = simp (length-append, header-long, pilots-long) (omega arith) in
     let lb : length (front ++ body) ≡ 32 + 4 * b + 12 * n = length-append front body ∙ omega (arith, slots-long arena seed S) in
-    let room = room-start arena o0 h w n R b eb in
+    let room = room-start arena o0 wide narrow n R b eb in
     let st : start ≡ 32 + 4 * b + 12 * n = es ∙ start-is n b eb in
     let q1 : o1 ≡ splice o0 0 front = e1 ∙ ap (λ (z : List ℕ). splice o0 0 (headerBytes seed n ++ pilotsBytes z)) ep in
-    let listed : flatMap (listedSlot h′ (length slots)) slots ≡ body = ap (λ (z : List ℕ). flatMap (listedSlot h′ (length z)) z) eq ∙ ap (λ (x : ℕ). flatMap (listedSlot h′ x) S) ls ∙ slots-listed arena h h′ w n seed L W S (W .slots) in
+    let listed : flatMap (listedSlot wide′ (length slots)) slots ≡ body = ap (λ (z : List ℕ). flatMap (listedSlot wide′ (length z)) z) eq ∙ ap (λ (x : ℕ). flatMap (listedSlot wide′ x) S) ls ∙ slots-listed arena wide wide′ narrow n seed L W S (W .slots) in
     let q2 : o2 ≡ splice o0 0 (front ++ body) = e2 ∙ ap (splice o1 (32 + 4 * b)) listed ∙ ap (λ (z : List ℕ). splice z (32 + 4 * b) body) q1 ∙ splice-then o0 0 front (32 + 4 * b) body (omega arith) (omega arith) in
     e3 ∙ ap (λ (z : List ℕ). splice z start arena) q2 ∙ splice-then o0 0 (front ++ body) start arena (omega arith) (omega arith) ∙ ap (splice o0 0) (simp append-assoc)
 
 -- what the writing of the slots asks, of the parts of what is lent
-pub slots-asked : (arena out h w : List ℕ) (n seed b : ℕ) (h′ out′ : List ℕ) → Room arena out h w n → SlotsKnown arena h w n seed → b ≡ bucketsOf n → length h′ ≡ length h → length out′ ≡ length out → (slots : List ℕ) → slots ≡ placing n (bucketsOf n) w .slots
-    → Filled (length slots) slots × (length h′ ≡ length slots + length slots) × (32 + 4 * b + 12 * length slots ≤ length out′)
-slots-asked arena out h w n seed b h′ out′ R W eb eh eo slots es =
-    let l : length slots ≡ n = ap length es ∙ room-slots arena out h w n R in
-    let room = room-start arena out h w n R b eb in
+pub slots-asked : (arena out wide narrow : List ℕ) (n seed b : ℕ) (wide′ out′ : List ℕ) → Room arena out wide narrow n → SlotsKnown arena wide narrow n seed → b ≡ bucketsOf n → length wide′ ≡ length wide → length out′ ≡ length out → (slots : List ℕ) → slots ≡ placing n (bucketsOf n) narrow .slots
+    → Filled (length slots) slots × (length wide′ ≡ length slots + length slots) × (32 + 4 * b + 12 * length slots ≤ length out′)
+slots-asked arena out wide narrow n seed b wide′ out′ R W eb eh eo slots es =
+    let l : length slots ≡ n = ap length es ∙ room-slots arena out wide narrow n R in
+    let room = room-start arena out wide narrow n R b eb in
     let long = R .long in
-    (subst (λ (z : List ℕ). Filled (length z) z) (sym es) (subst (λ (x : ℕ). Filled x (placing n (bucketsOf n) w .slots)) (sym (room-slots arena out h w n R)) (W .slots)), omega arith, omega arith)
+    (subst (λ (z : List ℕ). Filled (length z) z) (sym es) (subst (λ (x : ℕ). Filled x (placing n (bucketsOf n) narrow .slots)) (sym (room-slots arena out wide narrow n R)) (W .slots)), omega arith, omega arith)

@@ -10,7 +10,7 @@ use borrow.Author.Tests.{ltb-false, eqb-true, eqb-false, not-false, lt-ltb, le-l
 use Rattle.laws.proofs.StepsLaws.{any-false}
 use Rattle.construct.specs.Construct.{indexOf}
 use Rattle.finish.specs.Finish.{unmatched, unmatchedAt, mismatch}
-use Rattle.finish.specs.Needs.{Filled}
+use Rattle.finish.specs.Inner.Needs.{Filled}
 
 module _ (hs pilots : List ℕ) (n s held : ℕ) where
   pub unmatched-free : held ≡ 0 → true ≡ unmatched hs pilots n s held

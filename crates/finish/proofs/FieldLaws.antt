@@ -1,22 +1,23 @@
--- The body read back: its header, its pilots, its slots, its arena, as they were written. Assumes nothing.
+-- The body read back behind its header: its pilots, its slots, its arena, as they were written. Assumes nothing.
 use Prim.Native.Nat.{ℕ, suc, _+_, _-_, _*_, _/_, _^_, _<_, _≤_}
 use native.Mathlib.Omega.{arith}
 use mathlib.Core.Path.{_≡_, refl, sym, ap, _∙_}
 use mathlib.Core.List.{List, _++_, flatMap, append-assoc}
 use lib.ListN.{length, getD, take, drop, length-append}
 use lib.Seq.{length-take-le}
+use Rattle.numbers.specs.Limits.{mostKeys}
 use Rattle.words.specs.Field.{bytesOf}
 use Rattle.words.proofs.Laws.{length-bytesOf, bytesOf-append}
 use Rattle.words.proofs.WrittenLaws.{le-written}
 use Rattle.mixing.specs.Mixing.{hashOf, fingerprintOf, fingerprintOf-lt}
-use Rattle.mixing.proofs.SlotLaws.{few-buckets}
-use Rattle.layout.specs.Layout.{indexMagic, seedIn, keysIn, bucketsIn, arenaIn, pilotAt, slotPlace, recordOffset, fingerprintWide}
+use Rattle.layout.specs.Layout.{pilotAt, slotPlace, recordOffset, fingerprintWide}
+use Rattle.layout.proofs.HeaderLaws.{header-long, start-is, buckets-read}
 use Rattle.records.specs.Places.{entryPlace}
 use Rattle.construct.specs.Construct.{bucketsOf, Placing}
 use Rattle.construct.specs.Keys.{arenaKey}
 use Rattle.finish.specs.Body.{arenaStart, headerBytes, pilotsBytes, slotBytes, heldSlot, slotsBytes, bodyBytes}
 use Rattle.finish.proofs.RowLaws.{flat-split, flat-long}
-use Rattle.finish.proofs.BodyLaws.{header-long, held-long, pilots-long, slots-long, start-is}
+use Rattle.finish.proofs.BodyLaws.{held-long, pilots-long, slots-long}
 
 -- a fingerprint and the zero behind it are one number of 32 bits
 wide-print : (v : ℕ) → v < 2 ^ 16 → bytesOf 4 v ≡ bytesOf 2 v ++ bytesOf 2 0
@@ -25,37 +26,7 @@ wide-print v h =
     bytesOf-append 2 2 v ∙ ap (λ (x : ℕ). bytesOf 2 v ++ bytesOf 2 x) z
 
 -- the body of n keys under a seed and a placing
-module _ (arena : List ℕ) (n seed : ℕ) (pl : Placing) (most : n ≤ 65536) where
-  -- what follows the header
-  rest : List ℕ
-  rest = pilotsBytes (pl .pilots) ++ (slotsBytes arena seed (pl .slots) ++ arena)
-
-  pub magic-read : take 8 (bodyBytes arena n seed pl) ≡ indexMagic
-  unfolding bodyBytes headerBytes
-  magic-read = refl
-
-  pub seed-read : seed < 2 ^ 64 → seedIn (bodyBytes arena n seed pl) ≡ seed
-  unfolding bodyBytes headerBytes rest
-  seed-read h = le-written 8 seed 8 (bodyBytes arena n seed pl) indexMagic (bytesOf 4 n ++ (bytesOf 4 (bucketsOf n) ++ (bytesOf 8 (arenaStart n) ++ rest))) h refl (simp append-assoc)
-
-  pub keys-read : keysIn (bodyBytes arena n seed pl) ≡ n
-  unfolding bodyBytes headerBytes rest
-  keys-read =
-      le-written 4 n 16 (bodyBytes arena n seed pl) (indexMagic ++ bytesOf 8 seed) (bytesOf 4 (bucketsOf n) ++ (bytesOf 8 (arenaStart n) ++ rest)) (omega arith)
-      (simp (length-append, length-bytesOf)) (simp append-assoc)
-
-  pub buckets-read : bucketsIn (bodyBytes arena n seed pl) ≡ bucketsOf n
-  unfolding bodyBytes headerBytes rest
-  buckets-read =
-      le-written 4 (bucketsOf n) 20 (bodyBytes arena n seed pl) (indexMagic ++ (bytesOf 8 seed ++ bytesOf 4 n)) (bytesOf 8 (arenaStart n) ++ rest) (omega (arith, few-buckets n))
-      (simp (length-append, length-bytesOf)) (simp append-assoc)
-
-  pub start-read : arenaIn (bodyBytes arena n seed pl) ≡ arenaStart n
-  unfolding bodyBytes headerBytes rest
-  start-read =
-      le-written 8 (arenaStart n) 24 (bodyBytes arena n seed pl) (indexMagic ++ (bytesOf 8 seed ++ (bytesOf 4 n ++ bytesOf 4 (bucketsOf n)))) rest (omega (arith, few-buckets n, start-is n (bucketsOf n) refl))
-      (simp (length-append, length-bytesOf)) (simp append-assoc)
-
+module _ (arena : List ℕ) (n seed : ℕ) (pl : Placing) (most : n ≤ mostKeys) where
   pub pilot-read : (k : ℕ) → k < length (pl .pilots) → getD (pl .pilots) k 0 < 2 ^ 32 → pilotAt (bodyBytes arena n seed pl) k ≡ getD (pl .pilots) k 0
   unfolding bodyBytes pilotsBytes
   pilot-read k l h =
@@ -76,10 +47,10 @@ module _ (arena : List ℕ) (n seed : ℕ) (pl : Placing) (most : n ≤ 65536) w
     behind = flatMap (heldSlot arena seed) (drop (suc s) (pl .slots)) ++ arena
 
     before-long : length before ≡ slotPlace (bodyBytes arena n seed pl) s
-    unfolding before slotPlace
+    unfolding before slotPlace bodyBytes
     before-long =
         simp (length-append, header-long, pilots-long)
-        (omega (arith, flat-long (heldSlot arena seed) 12 (held-long arena seed) (take s (pl .slots)), length-take-le s (pl .slots) (omega arith), buckets-read, np))
+        (omega (arith, flat-long (heldSlot arena seed) 12 (held-long arena seed) (take s (pl .slots)), length-take-le s (pl .slots) (omega arith), buckets-read seed n (omega arith) (pilotsBytes (pl .pilots) ++ (slotsBytes arena seed (pl .slots) ++ arena)), np))
 
     around : bodyBytes arena n seed pl ≡ before ++ (heldSlot arena seed held ++ behind)
     unfolding before behind held bodyBytes slotsBytes

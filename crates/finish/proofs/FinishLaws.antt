@@ -26,8 +26,8 @@ use Rattle.records.specs.Places.{entryPlace}
 use Rattle.records.specs.Rules.{unslotted}
 use Rattle.records.specs.Walk.{walkFrom}
 use Rattle.records.proofs.PassedLaws.{walk-ends}
-use Rattle.construct.specs.Layout.{placing, constructedOf, Lent}
-use Rattle.construct.specs.Layout as lay
+use Rattle.construct.specs.Inner.Layout.{Lent}
+use Rattle.construct.specs.Answer.{placing, constructedOf, ConstructPost}
 use Rattle.construct.specs.declared.Constructed.{Constructed}
 use Rattle.construct.specs.declared.Constructed.the-variants.{Placed, Exhausted}
 use Rattle.construct.proofs.KeysLaws.{hashes-long}
@@ -35,7 +35,7 @@ use Rattle.finish.specs.declared.Finished.{Finished}
 use Rattle.finish.specs.declared.Finished.the-variants.{Body, Refused}
 use Rattle.finish.specs.Body.{arenaStart, bodyBytes, placedOf, bodyFrom, bodyOf}
 use Rattle.finish.specs.Finish.{walkedCauses, placingCauses, walkedRefusal, mismatch, placingRefusal, lengthsRefusal, keysOf, walked, finishRefusal, answered, bodyLength, finishOf, outAfter, spaceAfter, FinishPost}
-use Rattle.finish.specs.Needs.{Room, AttemptTaken, BodyPost, SlotsKnown, Filled}
+use Rattle.finish.specs.Inner.Needs.{Room, AttemptTaken, BodyPost, SlotsKnown, Filled}
 use Rattle.finish.proofs.LengthLaws.{Lengths, lengths}
 use Rattle.finish.proofs.CheckLaws.{all-filled}
 
@@ -77,20 +77,20 @@ answered-refused (suc r) size h = refl
 
 -- ---- the room for the keys
 
-pub room-lent : (arena out h w : List ℕ) (n : ℕ) → Room arena out h w n → Lent arena h w n
-room-lent arena out h w n R =
+pub room-lent : (arena out wide narrow : List ℕ) (n : ℕ) → Room arena out wide narrow n → Lent arena wide narrow n
+room-lent arena out wide narrow n R =
     let most = R .most in
     record { any = R .any; most = omega arith; entries = R .entries; long = R .long; room = omega (arith, few-buckets n, R .words) }
 
-pub room-kept : (arena out h w h′ w′ : List ℕ) (n : ℕ) → Room arena out h w n → length h′ ≡ length h → length w′ ≡ length w → Room arena out h′ w′ n
-room-kept arena out h w h′ w′ n R eh ew =
+pub room-kept : (arena out wide narrow wide′ narrow′ : List ℕ) (n : ℕ) → Room arena out wide narrow n → length wide′ ≡ length wide → length narrow′ ≡ length narrow → Room arena out wide′ narrow′ n
+room-kept arena out wide narrow wide′ narrow′ n R eh ew =
     let u = R .words in
     record { any = R .any; most = R .most; entries = R .entries; long = eh ∙ R .long; words = omega arith; room = R .room }
 
 -- ---- what construct left
 
-module _ (arena h w : List ℕ) (n : ℕ) where
-  pub exhausted : (r : Constructed) → r ≡ Exhausted → lay.ConstructPost (attemptHashes arena n) n h w r → placedOf arena n ≡ none
+module _ (arena wide narrow : List ℕ) (n : ℕ) where
+  pub exhausted : (r : Constructed) → r ≡ Exhausted → ConstructPost (attemptHashes arena n) n wide narrow r → placedOf arena n ≡ none
   unfolding placedOf
   exhausted r er B = go (constructOf (attemptHashes arena n)) (sym er ∙ B .answer)
     where
@@ -98,11 +98,11 @@ module _ (arena h w : List ℕ) (n : ℕ) where
       go none e = refl
       go (some (i, pl)) e = absurd (let z : _≡_ {A = ℕ} 0 1 = cc in omega arith)
 
-  pub chosen : (i : ℕ) (r : Constructed) → r ≡ Placed i → lay.ConstructPost (attemptHashes arena n) n h w r → AttemptTaken arena h w n i
+  pub chosen : (i : ℕ) (r : Constructed) → r ≡ Placed i → ConstructPost (attemptHashes arena n) n wide narrow r → AttemptTaken arena wide narrow n i
   unfolding placedOf
   chosen i r er B = go (constructOf (attemptHashes arena n)) refl (sym er ∙ B .answer)
     where
-      go : (o : Option (ℕ × Placing)) → constructOf (attemptHashes arena n) ≡ o → Placed i ≡ constructedOf o → AttemptTaken arena h w n i
+      go : (o : Option (ℕ × Placing)) → constructOf (attemptHashes arena n) ≡ o → Placed i ≡ constructedOf o → AttemptTaken arena wide narrow n i
       go none e q = absurd (let z : _≡_ {A = ℕ} 0 1 = cc in omega arith)
       go (some (j, pl)) e q =
           let ij : i ≡ j = cc in
@@ -123,30 +123,30 @@ hash-at seed arena (suc n) m l = go (ℕ-discrete m n) (λ lt. hash-at seed aren
         let lt : m < n = lt-of-le-of-ne (omega arith) e in
         List·getD-append (hashesOf seed arena n) (hashOf seed (arenaKey arena n) ∷ []) 0 m (omega (arith, hashes-long seed arena n)) ∙ rest lt
 
-module _ (arena h w : List ℕ) (n i : ℕ) (C : AttemptTaken arena h w n i) where
+module _ (arena wide narrow : List ℕ) (n i : ℕ) (C : AttemptTaken arena wide narrow n i) where
   -- 11 by the self-check of what was left
-  pub chosen-refusal : (pilots slots : List ℕ) (t : Bool) → pilots ≡ placing n (bucketsOf n) w .pilots → slots ≡ placing n (bucketsOf n) w .slots → mismatch (take n h) pilots slots ≡ t → placingRefusal arena n ≡ cond t 11 0
+  pub chosen-refusal : (pilots slots : List ℕ) (t : Bool) → pilots ≡ placing n (bucketsOf n) narrow .pilots → slots ≡ placing n (bucketsOf n) narrow .slots → mismatch (take n wide) pilots slots ≡ t → placingRefusal arena n ≡ cond t 11 0
   unfolding placingRefusal
   chosen-refusal pilots slots t ep es e =
-      let q : mismatch (attemptHashes arena n i) (placing n (bucketsOf n) w .pilots) (placing n (bucketsOf n) w .slots) ≡ t =
-      ap (λ (z : List ℕ). mismatch z (placing n (bucketsOf n) w .pilots) (placing n (bucketsOf n) w .slots)) (sym (C .hashes))
-      ∙ ap (λ (z : List ℕ). mismatch (take n h) z (placing n (bucketsOf n) w .slots)) (sym ep)
-      ∙ ap (mismatch (take n h) pilots) (sym es) ∙ e in
+      let q : mismatch (attemptHashes arena n i) (placing n (bucketsOf n) narrow .pilots) (placing n (bucketsOf n) narrow .slots) ≡ t =
+      ap (λ (z : List ℕ). mismatch z (placing n (bucketsOf n) narrow .pilots) (placing n (bucketsOf n) narrow .slots)) (sym (C .hashes))
+      ∙ ap (λ (z : List ℕ). mismatch (take n wide) z (placing n (bucketsOf n) narrow .slots)) (sym ep)
+      ∙ ap (mismatch (take n wide) pilots) (sym es) ∙ e in
       rw (C .taken, q)
 
-  chosen-body : bodyOf arena n ≡ bodyBytes arena n (seedOf i) (placing n (bucketsOf n) w)
+  chosen-body : bodyOf arena n ≡ bodyBytes arena n (seedOf i) (placing n (bucketsOf n) narrow)
   unfolding bodyOf
   chosen-body = ap (bodyFrom arena n) (C .taken)
 
-  pub chosen-out : (out out′ : List ℕ) (seed : ℕ) → seed ≡ seedOf i → out′ ≡ splice out 0 (bodyBytes arena n seed (placing n (bucketsOf n) w)) → out′ ≡ splice out 0 (bodyOf arena n)
-  chosen-out out out′ seed es q = q ∙ ap (λ (x : ℕ). splice out 0 (bodyBytes arena n x (placing n (bucketsOf n) w))) es ∙ ap (splice out 0) (sym chosen-body)
+  pub chosen-out : (out out′ : List ℕ) (seed : ℕ) → seed ≡ seedOf i → out′ ≡ splice out 0 (bodyBytes arena n seed (placing n (bucketsOf n) narrow)) → out′ ≡ splice out 0 (bodyOf arena n)
+  chosen-out out out′ seed es q = q ∙ ap (λ (x : ℕ). splice out 0 (bodyBytes arena n x (placing n (bucketsOf n) narrow))) es ∙ ap (splice out 0) (sym chosen-body)
 
   -- the hashes, and that every slot holds a key where the self-check passes
-  pub chosen-written : (seed : ℕ) (pilots slots : List ℕ) → seed ≡ seedOf i → slots ≡ placing n (bucketsOf n) w .slots → length (placing n (bucketsOf n) w .slots) ≡ n → mismatch (take n h) pilots slots ≡ false → SlotsKnown arena h w n seed
+  pub chosen-written : (seed : ℕ) (pilots slots : List ℕ) → seed ≡ seedOf i → slots ≡ placing n (bucketsOf n) narrow .slots → length (placing n (bucketsOf n) narrow .slots) ≡ n → mismatch (take n wide) pilots slots ≡ false → SlotsKnown arena wide narrow n seed
   unfolding attemptHashes
   chosen-written seed pilots slots es eq l e = record {
-    hashes = λ m lm. sym (getD-take n h m 0 lm) ∙ ap (λ (z : List ℕ). getD z m 0) (C .hashes) ∙ hash-at (seedOf i) arena n m lm ∙ ap (λ (x : ℕ). hashOf x (arenaKey arena m)) (sym es);
-    slots = subst (λ (z : List ℕ). Filled n z) eq (subst (λ (x : ℕ). Filled x slots) (ap length eq ∙ l) (all-filled (take n h) pilots slots e));
+    hashes = λ m lm. sym (getD-take n wide m 0 lm) ∙ ap (λ (z : List ℕ). getD z m 0) (C .hashes) ∙ hash-at (seedOf i) arena n m lm ∙ ap (λ (x : ℕ). hashOf x (arenaKey arena m)) (sym es);
+    slots = subst (λ (z : List ℕ). Filled n z) eq (subst (λ (x : ℕ). Filled x slots) (ap length eq ∙ l) (all-filled (take n wide) pilots slots e));
   }
 
 -- ---- what was built
@@ -163,41 +163,41 @@ built-body arena out out′ n start e es q = record { answer = rw (e, es); writt
 
 -- ---- what finish leaves
 
-module _ (arena o w u : List ℕ) (k : Walked) (ek : k ≡ walkFrom unslotted arena Untested 0 0 (length arena)) where
-  by-walk : walkedRefusal (length arena) (k .end) (k .keys) (length o) (length w) (length u) ≡ lengthsRefusal arena (length o) (length w) (length u)
+module _ (arena out wide narrow : List ℕ) (k : Walked) (ek : k ≡ walkFrom unslotted arena Untested 0 0 (length arena)) where
+  by-walk : walkedRefusal (length arena) (k .end) (k .keys) (length out) (length wide) (length narrow) ≡ lengthsRefusal arena (length out) (length wide) (length narrow)
   unfolding walked
-  by-walk = ap (λ (x : Walked). walkedRefusal (length arena) (x .end) (x .keys) (length o) (length w) (length u)) ek
+  by-walk = ap (λ (x : Walked). walkedRefusal (length arena) (x .end) (x .keys) (length out) (length wide) (length narrow)) ek
 
   keys-walked : k .keys ≡ keysOf arena
   unfolding walked
   keys-walked = ap (λ (x : Walked). x .keys) ek
 
   -- refused before the keys are placed: nothing is written
-  pub post-early : (r : ℕ) → r ≡ walkedRefusal (length arena) (k .end) (k .keys) (length o) (length w) (length u) → (r ≡ 0 → ⊥) → FinishPost arena o w u (Refused r) o w u
+  pub post-early : (r : ℕ) → r ≡ walkedRefusal (length arena) (k .end) (k .keys) (length out) (length wide) (length narrow) → (r ≡ 0 → ⊥) → FinishPost arena out wide narrow (Refused r) out wide narrow
   unfolding finishOf outAfter
   post-early r e n =
-      let e′ : lengthsRefusal arena (length o) (length w) (length u) ≡ r = sym (e ∙ by-walk) in
-      let q : finishRefusal arena (length o) (length w) (length u) ≡ r = refused-early arena (length o) (length w) (length u) (λ z. n (sym e′ ∙ z)) ∙ e′ in
+      let e′ : lengthsRefusal arena (length out) (length wide) (length narrow) ≡ r = sym (e ∙ by-walk) in
+      let q : finishRefusal arena (length out) (length wide) (length narrow) ≡ r = refused-early arena (length out) (length wide) (length narrow) (λ z. n (sym e′ ∙ z)) ∙ e′ in
       record {
         answer = sym (ap (λ (x : ℕ). answered x (bodyLength arena (keysOf arena))) q ∙ answered-refused r _ n);
-        out = sym (ap (λ (x : ℕ). cond (eqb x 0) (splice o 0 (bodyOf arena (keysOf arena))) o) q ∙ ap (λ (t : Bool). cond t (splice o 0 (bodyOf arena (keysOf arena))) o) (ne-eqb r 0 n));
-        wide = sym (ap (λ (x : ℕ). spaceAfter x w) e′ ∙ ap (λ (t : Bool). cond t (replicate (length w) 0) w) (ne-eqb r 0 n));
-        narrow = sym (ap (λ (x : ℕ). spaceAfter x u) e′ ∙ ap (λ (t : Bool). cond t (replicate (length u) 0) u) (ne-eqb r 0 n));
+        out-after = sym (ap (λ (x : ℕ). cond (eqb x 0) (splice out 0 (bodyOf arena (keysOf arena))) out) q ∙ ap (λ (t : Bool). cond t (splice out 0 (bodyOf arena (keysOf arena))) out) (ne-eqb r 0 n));
+        wide-after = sym (ap (λ (x : ℕ). spaceAfter x wide) e′ ∙ ap (λ (t : Bool). cond t (replicate (length wide) 0) wide) (ne-eqb r 0 n));
+        narrow-after = sym (ap (λ (x : ℕ). spaceAfter x narrow) e′ ∙ ap (λ (t : Bool). cond t (replicate (length narrow) 0) narrow) (ne-eqb r 0 n));
       }
 
-  module _ (passed : walkedRefusal (length arena) (k .end) (k .keys) (length o) (length w) (length u) ≡ 0) where
-    pub length-facts : Lengths (length arena) (k .end) (k .keys) (length o) (length w) (length u)
-    length-facts = lengths (length arena) (k .end) (k .keys) (length o) (length w) (length u) passed
+  module _ (passed : walkedRefusal (length arena) (k .end) (k .keys) (length out) (length wide) (length narrow) ≡ 0) where
+    pub length-facts : Lengths (length arena) (k .end) (k .keys) (length out) (length wide) (length narrow)
+    length-facts = lengths (length arena) (k .end) (k .keys) (length out) (length wide) (length narrow) passed
 
-    pub space-long : length (take (k .keys + k .keys) w) ≡ k .keys + k .keys
-    space-long = length-take-le (k .keys + k .keys) w (omega (arith, length-facts .wide-long))
+    pub space-long : length (take (k .keys + k .keys) wide) ≡ k .keys + k .keys
+    space-long = length-take-le (k .keys + k .keys) wide (omega (arith, length-facts .wide-long))
 
     walk-inside : entryPlace arena 0 (k .keys) ≤ length arena
     walk-inside =
         let e : k .end ≡ entryPlace arena 0 (k .keys) = ap (λ (x : Walked). x .end) ek ∙ walk-ends unslotted arena Untested 0 0 (length arena) ∙ ap (λ (x : Walked). entryPlace arena 0 (x .keys)) (sym ek) in
         omega (arith, e, length-facts .whole)
 
-    pub post-room : Room arena o (take (k .keys + k .keys) w) u (k .keys)
+    pub post-room : Room arena out (take (k .keys + k .keys) wide) narrow (k .keys)
     post-room = record {
       any = length-facts .some;
       most = length-facts .few;
@@ -208,14 +208,14 @@ module _ (arena o w u : List ℕ) (k : Walked) (ek : k ≡ walkFrom unslotted ar
     }
 
     -- the keys placed or not: the output as that leaves it, the workspace zero
-    pub post-late : (r : Finished) (o′ w′ u′ : List ℕ) → BodyPost arena o (k .keys) r o′ → w′ ≡ replicate (length w) 0 → u′ ≡ replicate (length u) 0 → FinishPost arena o w u r o′ w′ u′
+    pub post-late : (r : Finished) (out′ wide′ narrow′ : List ℕ) → BodyPost arena out (k .keys) r out′ → wide′ ≡ replicate (length wide) 0 → narrow′ ≡ replicate (length narrow) 0 → FinishPost arena out wide narrow r out′ wide′ narrow′
     unfolding finishOf outAfter
-    post-late r o′ w′ u′ B ew eu =
-        let z : lengthsRefusal arena (length o) (length w) (length u) ≡ 0 = sym by-walk ∙ passed in
-        let q : finishRefusal arena (length o) (length w) (length u) ≡ placingRefusal arena (k .keys) = refused-late arena (length o) (length w) (length u) z ∙ ap (placingRefusal arena) (sym keys-walked) in
+    post-late r out′ wide′ narrow′ B ew eu =
+        let z : lengthsRefusal arena (length out) (length wide) (length narrow) ≡ 0 = sym by-walk ∙ passed in
+        let q : finishRefusal arena (length out) (length wide) (length narrow) ≡ placingRefusal arena (k .keys) = refused-late arena (length out) (length wide) (length narrow) z ∙ ap (placingRefusal arena) (sym keys-walked) in
         record {
           answer = B .answer ∙ sym (ap (λ (x : ℕ). answered x (bodyLength arena (keysOf arena))) q ∙ ap (λ (x : ℕ). answered (placingRefusal arena (k .keys)) (bodyLength arena x)) (sym keys-walked));
-          out = B .written ∙ sym (ap (λ (x : ℕ). cond (eqb x 0) (splice o 0 (bodyOf arena (keysOf arena))) o) q ∙ ap (λ (x : ℕ). cond (eqb (placingRefusal arena (k .keys)) 0) (splice o 0 (bodyOf arena x)) o) (sym keys-walked));
-          wide = ew ∙ sym (ap (λ (x : ℕ). spaceAfter x w) z);
-          narrow = eu ∙ sym (ap (λ (x : ℕ). spaceAfter x u) z);
+          out-after = B .written ∙ sym (ap (λ (x : ℕ). cond (eqb x 0) (splice out 0 (bodyOf arena (keysOf arena))) out) q ∙ ap (λ (x : ℕ). cond (eqb (placingRefusal arena (k .keys)) 0) (splice out 0 (bodyOf arena x)) out) (sym keys-walked));
+          wide-after = ew ∙ sym (ap (λ (x : ℕ). spaceAfter x wide) z);
+          narrow-after = eu ∙ sym (ap (λ (x : ℕ). spaceAfter x narrow) z);
         }

@@ -4,18 +4,11 @@ use mathlib.Core.List.{List, [], _++_, flatMap}
 use mathlib.Core.Option.{Option, none, some}
 use Rattle.words.specs.Field.{bytesOf}
 use Rattle.mixing.specs.Mixing.{hashOf, fingerprintOf, seedOf}
-use Rattle.layout.specs.Layout.{indexMagic, slotAt}
 use Rattle.records.specs.Places.{entryPlace}
-use Rattle.construct.specs.Construct.{bucketsOf, Placing, constructOf}
+use Rattle.construct.specs.Construct.{Placing, constructOf}
 use Rattle.construct.specs.Keys.{arenaKey, attemptHashes}
-
--- arena start = 32 + 4b + 12n
-unfoldable pub arenaStart : ℕ → ℕ
-arenaStart n = slotAt (bucketsOf n) n
-
--- `KIBANPH2`, u64 seed, u32 n, u32 b, u64 arena start
-unfoldable pub headerBytes : (seed n : ℕ) → List ℕ
-headerBytes seed n = indexMagic ++ (bytesOf 8 seed ++ (bytesOf 4 n ++ (bytesOf 4 (bucketsOf n) ++ bytesOf 8 (arenaStart n))))
+-- where the arena starts, and the header's bytes
+unfoldable pub use Rattle.layout.specs.Layout.{arenaStart, headerBytes}
 
 -- b pilots of u32
 unfoldable pub pilotsBytes : List ℕ → List ℕ

@@ -8,6 +8,7 @@ use lib.Dec.{eqb, ltb}
 use lib.ListN.{length, getD, replicate}
 use Rattle.laws.specs.Refusals.{Cause, cause, firstOf}
 use Rattle.laws.specs.Steps.{anyBelow}
+use Rattle.numbers.specs.Limits.{mostKeys}
 use Rattle.words.specs.Field.{splice}
 use Rattle.records.specs.declared.DataLength.the-variants.{Untested}
 use Rattle.records.specs.declared.Walked.{Walked}
@@ -32,7 +33,7 @@ abbrev pub walkedCauses : (size end n out wide narrow : ℕ) → List Cause
 walkedCauses size end n out wide narrow =
     cause (not (eqb end size)) 8
     ∷ cause (eqb n 0) 5
-    ∷ cause (ltb 65536 n) 5
+    ∷ cause (ltb mostKeys n) 5
     ∷ cause (ltb wide (2 * n)) 9
     ∷ cause (ltb narrow (8 * n + 8)) 9
     ∷ cause (ltb out (arenaStart n + size)) 6
@@ -104,11 +105,18 @@ abbrev pub spaceAfter : (refusal : ℕ) → List ℕ → List ℕ
 spaceAfter refusal space = cond (eqb refusal 0) (replicate (length space) 0) space
 
 -- what finish commits to: its answer, every byte of the output, every word of both workspaces
-pub record FinishPost (arena o w u : List ℕ) (r : Finished) (o′ w′ u′ : List ℕ) : Type 0 where
-  pub answer : r ≡ finishOf arena (length o) (length w) (length u)
-  pub out : o′ ≡ outAfter arena o (length w) (length u)
-  pub wide : w′ ≡ spaceAfter (lengthsRefusal arena (length o) (length w) (length u)) w
-  pub narrow : u′ ≡ spaceAfter (lengthsRefusal arena (length o) (length w) (length u)) u
+pub record FinishPost (arena out wide narrow : List ℕ) (r : Finished) (out' wide' narrow' : List ℕ) : Type 0 where
+  pub answer : r ≡ finishOf arena (length out) (length wide) (length narrow)
+  pub out-after : out' ≡ outAfter arena out (length wide) (length narrow)
+  pub wide-after : wide' ≡ spaceAfter (lengthsRefusal arena (length out) (length wide) (length narrow)) wide
+  pub narrow-after : narrow' ≡ spaceAfter (lengthsRefusal arena (length out) (length wide) (length narrow)) narrow
+
+-- two results that meet the contract are the same
+pub record SameResult (r s : Finished) (out out' wide wide' narrow narrow' : List ℕ) : Type 0 where
+  pub answer : r ≡ s
+  pub out-same : out ≡ out'
+  pub wide-same : wide ≡ wide'
+  pub narrow-same : narrow ≡ narrow'
 
 -- the paper's number of an answer, 0 for a body, and the body's length
 abbrev pub finishedNumber : Finished → ℕ

@@ -1,3 +1,3 @@
 pub mod Body
 pub mod Finish
-pub mod Needs
+pub mod Inner

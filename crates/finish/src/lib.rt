@@ -3,14 +3,16 @@ mod body;
 mod check;
 
 use construct::Constructed;
+use layout::arena_start;
 use mixing::slot::buckets;
+use numbers::Refusal;
 use records::Arena;
 use records::DataLength;
 use records::walk::walk;
 use words::part;
 ghost use mathlib.Core.Path.{_≡_};
 ghost use Rattle.finish.specs.Finish.{walkedRefusal, FinishPost};
-ghost use Rattle.finish.specs.Needs.{Room, AttemptTaken, BodyPost};
+ghost use Rattle.finish.specs.Inner.Needs.{Room, AttemptTaken, BodyPost};
 
 // What finish answers: the body's length, or the number of a refusal.
 pub enum Finished {
@@ -28,54 +30,61 @@ fn length_refusal(size: usize, end: usize, n: usize, out: usize, wide: usize, na
     ensures { λ r. ⌜ r ≡ walkedRefusal size end n out wide narrow ⌝ }
 {
     if end != size {
-        return 8;
+        return Refusal::ARENA;
     }
     if n == 0 {
-        return 5;
+        return Refusal::COUNT;
     }
     if Finished::MAX_KEYS < n {
-        return 5;
+        return Refusal::COUNT;
     }
     if wide < 2 * n {
-        return 9;
+        return Refusal::WORKSPACE;
     }
     if narrow < 8 * n + 8 {
-        return 9;
+        return Refusal::WORKSPACE;
     }
     if out < size {
-        return 6;
+        return Refusal::BUFFER;
     }
-    if out - size < body::arena_start(n) {
-        return 6;
+    if out - size < arena_start(n) {
+        return Refusal::BUFFER;
     }
     0
 }
 
 // Checks the attempt that was taken, and writes the body.
-fn checked(arena: &[u8], out: &mut [u8], h: &mut [u64], w: &[u32], n: usize, i: u64) -> Finished
-    requires { ⌜ Room (now arena) (now out) (now h) (now w) n × AttemptTaken (now arena) (now h) (now w) n i ⌝ }
+fn checked(
+    arena: &[u8],
+    out: &mut [u8],
+    wide: &mut [u64],
+    narrow: &[u32],
+    n: usize,
+    i: u64,
+) -> Finished
+    requires { ⌜ Room (now arena) (now out) (now wide) (now narrow) n × AttemptTaken (now arena) (now wide) (now narrow) n i ⌝ }
     ensures { λ r. ⌜ BodyPost (now (arena .entry)) (now (out .entry)) n r (now (out .exit)) ⌝ }
 {
     let b = buckets(n);
     let pilots = b + 1;
     let slots = pilots + b;
     let end = slots + n;
-    if check::mismatch(&h[..n], &w[pilots..slots], &w[slots..end]) {
-        return Finished::Refused(11);
+    if check::mismatch(&wide[..n], &narrow[pilots..slots], &narrow[slots..end]) {
+        return Finished::Refused(Refusal::SELF_CHECK);
     }
-    body::write_body(arena, out, h, w, n, mixing::seed(i));
-    Finished::Body(body::arena_start(n) + arena.len())
+    body::write_body(arena, out, wide, narrow, n, mixing::seed(i));
+    Finished::Body(arena_start(n) + arena.len())
 }
 
 // Places the n keys, and writes the body where that succeeds.
-fn build(arena: &[u8], out: &mut [u8], h: &mut [u64], w: &mut [u32], n: usize) -> Finished
-    requires { ⌜ Room (now arena) (now out) (now h) (now w) n ⌝ }
+fn build(arena: &[u8], out: &mut [u8], wide: &mut [u64], narrow: &mut [u32], n: usize) -> Finished
+    requires { ⌜ Room (now arena) (now out) (now wide) (now narrow) n ⌝ }
     ensures { λ r. ⌜ BodyPost (now (arena .entry)) (now (out .entry)) n r (now (out .exit)) ⌝ }
 {
-    let c = construct::construct(arena, h, w, n);
+    let c = construct::construct(arena, wide, narrow, n);
     match c {
-        Constructed::Placed(i) => checked(arena, out, h, w, n, i),
-        Constructed::Exhausted => Finished::Refused(10),
+        Constructed::Placed(i) => checked(arena, out, wide, narrow, n, i),
+        Constructed::Exhausted => Finished::Refused(Refusal::ATTEMPTS),
     }
 }
 

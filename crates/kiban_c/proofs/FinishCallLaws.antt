@@ -30,8 +30,8 @@ module _ {arena out wide narrow answer : List ℕ} where
       let e = sym g ∙ p .answer in
       record {
         number = ap finishedNumber e ∙ none-number c _;
-        out-after = p .out ∙ none-left c _ _;
-        wide-after = p .wide ∙ none-left c _ _;
-        narrow-after = p .narrow ∙ none-left c _ _;
+        out-after = p .out-after ∙ none-left c _ _;
+        wide-after = p .wide-after ∙ none-left c _ _;
+        narrow-after = p .narrow-after ∙ none-left c _ _;
         answer-after = av ∙ ap (λ (z : Finished). splice answer 0 (finishedValues z)) e ∙ none-left c _ _;
       }

@@ -1,14 +1,14 @@
--- Where things stand in a body: the header, the pilots, the slots (document 01, "Layouts"), and the header's rules 20 and 21.
+-- Where things stand in a body: the header as it is read and written, the pilots, the slots (document 01, "Layouts"), and the header's rules 20 and 21.
 use Prim.Native.Nat.{ℕ, _+_, _*_}
-use mathlib.Core.List.{List, [], _∷_}
+use mathlib.Core.List.{List, [], _∷_, _++_}
 use mathlib.Core.Bool.{Bool, not}
 use lib.ListN.{length, take}
 use lib.Dec.{ltb, leb, eqb}
 use Rattle.laws.specs.Refusals.{Cause, cause, firstOf, orElse}
-use Rattle.words.specs.Field.{le}
+use Rattle.words.specs.Field.{le, bytesOf}
 use Rattle.words.specs.Part.{sameAs}
 use Rattle.mixing.specs.Mixing.{bucketOf}
-use Rattle.mixing.specs.Slots.{bucketsOf, slotBy}
+use Rattle.mixing.specs.Slots.{bucketsOf, direct, slotBy}
 
 -- KIBANPH2
 abbrev pub indexMagic : List ℕ
@@ -27,6 +27,18 @@ bucketsIn body = le 4 body 20
 abbrev pub arenaIn : List ℕ → ℕ
 arenaIn body = le 8 body 24
 
+-- where slot i stands, behind the header and b pilots; behind the last slot the arena starts
+abbrev pub slotAt : (b i : ℕ) → ℕ
+slotAt b i = 32 + 4 * b + 12 * i
+
+-- arena start = 32 + 4b + 12n
+unfoldable pub arenaStart : ℕ → ℕ
+arenaStart n = slotAt (bucketsOf n) n
+
+-- the header as it is written: `KIBANPH2`, u64 seed, u32 n, u32 b, u64 arena start
+unfoldable pub headerBytes : (seed n : ℕ) → List ℕ
+headerBytes seed n = indexMagic ++ (bytesOf 8 seed ++ (bytesOf 4 n ++ (bytesOf 4 (bucketsOf n) ++ bytesOf 8 (arenaStart n))))
+
 -- 20 body under 32 bytes or wrong magic
 abbrev pub magicCauses : List ℕ → List Cause
 magicCauses body = cause (ltb (length body) 32) 20 ∷ cause (not (sameAs (take 8 body) indexMagic)) 20 ∷ []
@@ -34,26 +46,25 @@ magicCauses body = cause (ltb (length body) 32) 20 ∷ cause (not (sameAs (take 
 unfoldable pub magicRefusal : List ℕ → ℕ
 magicRefusal body = firstOf (magicCauses body)
 
--- where slot i stands, behind the header and b pilots; behind the last slot the arena starts
-abbrev pub slotAt : (b i : ℕ) → ℕ
-slotAt b i = 32 + 4 * b + 12 * i
-
--- 21 dimensions: n from 1 to 2^31 − 1, b, arena start, arena start below the body's length
-abbrev pub dimensionCauses : (size n b arena : ℕ) → List Cause
-dimensionCauses size n b arena =
+-- 21 dimensions: n from 1 to 2^31 − 1, b, arena start
+abbrev pub dimensionCauses : (n b arena : ℕ) → List Cause
+dimensionCauses n b arena =
     cause (eqb n 0) 21
-    ∷ cause (leb 2147483648 n) 21
+    ∷ cause (leb direct n) 21
     ∷ cause (not (eqb b (bucketsOf n))) 21
     ∷ cause (not (eqb arena (slotAt b n))) 21
-    ∷ cause (leb size arena) 21
     ∷ []
 
-unfoldable pub dimensionRefusal : (size n b arena : ℕ) → ℕ
-dimensionRefusal size n b arena = firstOf (dimensionCauses size n b arena)
+unfoldable pub dimensionRefusal : (n b arena : ℕ) → ℕ
+dimensionRefusal n b arena = firstOf (dimensionCauses n b arena)
+
+-- 21 of a body: its dimensions, and the arena start below the body's length
+abbrev pub bodyCauses : List ℕ → List Cause
+bodyCauses body = dimensionCauses (keysIn body) (bucketsIn body) (arenaIn body) ++ (cause (leb (length body) (arenaIn body)) 21 ∷ [])
 
 -- 20 and 21, which validation and get check first
 unfoldable pub headerRefusal : List ℕ → ℕ
-headerRefusal body = orElse (magicRefusal body) (dimensionRefusal (length body) (keysIn body) (bucketsIn body) (arenaIn body))
+headerRefusal body = orElse (magicRefusal body) (firstOf (bodyCauses body))
 
 -- pilot i
 abbrev pub pilotAt : List ℕ → ℕ → ℕ
@@ -61,7 +72,7 @@ pilotAt body i = le 4 body (32 + 4 * i)
 
 -- a direct pilot (2^31 + slot) at or past n
 abbrev pub directPast : (n pilot : ℕ) → Bool
-directPast n pilot = leb (2147483648 + n) pilot
+directPast n pilot = leb (direct + n) pilot
 
 -- the pilot of a hash's bucket
 unfoldable pub pilotOf : List ℕ → ℕ → ℕ

@@ -1,17 +1,31 @@
 // The layout of a body: its header's fields and rules, and where its pilots, slots and arena stand.
 use mixing::slot::Pilot;
 use mixing::slot::buckets;
+use numbers::Refusal;
 use words::field;
 use words::part;
 ghost use mathlib.Core.Path.{_≡_};
 ghost use Prim.Native.Nat.{_^_, _<_, _≤_};
 ghost use lib.ListN.{length};
-ghost use Rattle.layout.specs.Layout.{magicRefusal, slotAt, dimensionRefusal, headerRefusal, seedIn, keysIn, bucketsIn, arenaIn};
+ghost use Rattle.words.specs.Field.{splice};
+ghost use Rattle.layout.specs.Layout.{magicRefusal, slotAt, arenaStart, headerBytes, dimensionRefusal, headerRefusal, seedIn, keysIn, bucketsIn, arenaIn};
+
+// KIBANPH2, which a body begins with.
+const MAGIC: [u8; 8] = [75, 73, 66, 65, 78, 80, 72, 50];
 
 // The header of a body.
 pub struct Header {}
 
 impl Header {
+    // Where its fields stand: the seed, the number of keys, the number of buckets, where the arena starts.
+    const SEED: usize = 8;
+
+    const KEYS: usize = 16;
+
+    const BUCKETS: usize = 20;
+
+    const ARENA: usize = 24;
+
     // The bytes of the header.
     pub const BYTES: usize = 32;
 
@@ -27,7 +41,7 @@ pub fn seed_in(body: &[u8]) -> u64
     requires { ⌜ 32 ≤ length (now body) ⌝ }
     ensures { λ r. ⌜ r ≡ seedIn (now (body .entry)) ⌝ }
 {
-    field::u64_at(body, 8)
+    field::u64_at(body, Header::SEED)
 }
 
 // The number of keys.
@@ -35,7 +49,7 @@ pub fn keys_in(body: &[u8]) -> u32
     requires { ⌜ 32 ≤ length (now body) ⌝ }
     ensures { λ r. ⌜ r ≡ keysIn (now (body .entry)) ⌝ }
 {
-    field::u32_at(body, 16)
+    field::u32_at(body, Header::KEYS)
 }
 
 // The number of buckets.
@@ -43,7 +57,7 @@ pub fn buckets_in(body: &[u8]) -> u32
     requires { ⌜ 32 ≤ length (now body) ⌝ }
     ensures { λ r. ⌜ r ≡ bucketsIn (now (body .entry)) ⌝ }
 {
-    field::u32_at(body, 20)
+    field::u32_at(body, Header::BUCKETS)
 }
 
 // Where the arena starts.
@@ -51,7 +65,7 @@ pub fn arena_in(body: &[u8]) -> u64
     requires { ⌜ 32 ≤ length (now body) ⌝ }
     ensures { λ r. ⌜ r ≡ arenaIn (now (body .entry)) ⌝ }
 {
-    field::u64_at(body, 24)
+    field::u64_at(body, Header::ARENA)
 }
 
 // 20, or 0.
@@ -59,12 +73,12 @@ fn magic_refusal(body: &[u8]) -> u8
     ensures { λ r. ⌜ r ≡ magicRefusal (now (body .entry)) ⌝ }
 {
     if body.len() < Header::BYTES {
-        return 20;
+        return Refusal::MAGIC;
     }
-    if part::same(&body[..8], b"KIBANPH2") {
+    if part::same(&body[..8], &MAGIC) {
         return 0;
     }
-    20
+    Refusal::MAGIC
 }
 
 // Where slot i stands, behind the header and b pilots; behind the last slot the arena starts.
@@ -75,24 +89,43 @@ pub fn slot_at(b: usize, i: usize) -> usize
     Header::BYTES + Header::PILOT * b + Header::SLOT * i
 }
 
-// 21, or 0: n keys, b buckets and an arena start in a body of `size` bytes.
-fn dimension_refusal(size: u64, n: u64, b: u64, arena: u64) -> u8
-    ensures { λ r. ⌜ r ≡ dimensionRefusal size n b arena ⌝ }
+// Where the arena of n keys starts in the body.
+pub fn arena_start(n: usize) -> usize
+    requires { ⌜ n < 2 ^ 32 ⌝ }
+    ensures { λ r. ⌜ r ≡ arenaStart n ⌝ }
+{
+    slot_at(buckets(n), n)
+}
+
+// Writes the header of n keys under a seed.
+pub fn put_header(out: &mut [u8], n: usize, seed: u64)
+    requires { ⌜ (n < 2 ^ 32) × (32 ≤ length (now out)) ⌝ }
+    ensures { λ _. ⌜ now (out .exit) ≡ splice (now (out .entry)) 0 (headerBytes seed n) ⌝ }
+{
+    let b = buckets(n);
+    let start = arena_start(n);
+    part::copy_at(out, 0, &MAGIC);
+    field::put_u64(out, Header::SEED, seed);
+    field::put_u32(out, Header::KEYS, n as u32);
+    field::put_u32(out, Header::BUCKETS, b as u32);
+    field::put_u64(out, Header::ARENA, start as u64);
+}
+
+// 21, or 0, by n keys, b buckets and an arena start alone, whatever the body's length.
+pub fn dimension_refusal(n: u64, b: u64, arena: u64) -> u8
+    ensures { λ r. ⌜ r ≡ dimensionRefusal n b arena ⌝ }
 {
     if n == 0 {
-        return 21;
+        return Refusal::DIMENSIONS;
     }
     if Pilot::DIRECT as u64 <= n {
-        return 21;
+        return Refusal::DIMENSIONS;
     }
     if b != buckets(n as usize) as u64 {
-        return 21;
+        return Refusal::DIMENSIONS;
     }
     if arena != slot_at(b as usize, n as usize) as u64 {
-        return 21;
-    }
-    if size <= arena {
-        return 21;
+        return Refusal::DIMENSIONS;
     }
     0
 }
@@ -101,14 +134,17 @@ fn dimension_refusal(size: u64, n: u64, b: u64, arena: u64) -> u8
 pub fn header_refusal(body: &[u8]) -> u8
     ensures { λ r. ⌜ r ≡ headerRefusal (now (body .entry)) ⌝ }
 {
-    let r = magic_refusal(body);
+    let magic = magic_refusal(body);
+    if magic != 0 {
+        return magic;
+    }
+    let arena = arena_in(body);
+    let r = dimension_refusal(keys_in(body) as u64, buckets_in(body) as u64, arena);
     if r != 0 {
         return r;
     }
-    dimension_refusal(
-        body.len() as u64,
-        keys_in(body) as u64,
-        buckets_in(body) as u64,
-        arena_in(body),
-    )
+    if body.len() as u64 <= arena {
+        return Refusal::DIMENSIONS;
+    }
+    0
 }

@@ -5,15 +5,14 @@ use mathlib.Core.Path.{_≡_, refl, sym, ap, _∙_}
 use mathlib.Core.List.{List, [], _∷_}
 use mathlib.Core.Bool.{Bool, true, false, cond, _&&_, and-eq-true-iff, true≢false}
 use lib.Dec.{leb, lit<}
-use lib.ListN.{length}
 use borrow.Author.Tests.{leb-true}
-use Rattle.laws.specs.Refusals.{Cause, First, here, later, None, Numbered, orElse}
+use Rattle.laws.specs.Refusals.{Cause, firstOf, First, here, later, None, Numbered, orElse}
 use Rattle.laws.proofs.RefusalLaws.{first-given, first-only, first-positive, none-given, none-only}
 use Rattle.laws.specs.Refusals.Numbered.{numbered-none, numbered-more}
 use Rattle.laws.specs.Refusals.{FirstOfTwo}
 use Rattle.laws.proofs.RefusalLaws.{two-given, two-only}
 use Rattle.laws.specs.Refusals.FirstOfTwo.{by-first, by-second}
-use Rattle.layout.specs.Layout.{keysIn, bucketsIn, arenaIn, magicCauses, magicRefusal, dimensionCauses, dimensionRefusal, headerRefusal, pilotAt, directPast}
+use Rattle.layout.specs.Layout.{keysIn, bucketsIn, arenaIn, magicCauses, magicRefusal, bodyCauses, headerRefusal, pilotAt, directPast}
 use Rattle.records.specs.declared.DataLength.{DataLength}
 use Rattle.records.specs.declared.DataLength.the-variants.{Of}
 use Rattle.records.specs.Rules.{keyCauses, versionCauses}
@@ -69,8 +68,8 @@ past-pilots body n i (suc k) s = go (directPast n (pilotAt body i)) refl (past-p
 magic-numbered : (body : List ℕ) → Numbered (magicCauses body)
 magic-numbered body = numbered-more (lit< tt) (numbered-more (lit< tt) numbered-none)
 
-dimensions-numbered : (size n b arena : ℕ) → Numbered (dimensionCauses size n b arena)
-dimensions-numbered size n b arena =
+dimensions-numbered : (body : List ℕ) → Numbered (bodyCauses body)
+dimensions-numbered body =
     numbered-more (lit< tt) (numbered-more (lit< tt) (numbered-more (lit< tt) (numbered-more (lit< tt) (numbered-more (lit< tt) numbered-none))))
 
 module _ (body : List ℕ) (size : ℕ) where
@@ -79,7 +78,7 @@ module _ (body : List ℕ) (size : ℕ) where
   magic-passes e = none-only (magic-numbered body) e
 
   abbrev dimensions : ℕ
-  dimensions = dimensionRefusal (length body) (keysIn body) (bucketsIn body) (arenaIn body)
+  dimensions = firstOf (bodyCauses body)
 
   abbrev pilots : ℕ
   pilots = pilotsRefusal body (keysIn body) 0 (bucketsIn body)
@@ -95,12 +94,12 @@ module _ (body : List ℕ) (size : ℕ) where
 
   module _ (r : ℕ) (is : 0 < r) where
     header-stops : headerRefusal body ≡ r → ValidationStops body size r
-    unfolding headerRefusal magicRefusal dimensionRefusal
+    unfolding headerRefusal magicRefusal
     header-stops e = go (two-only r (magicRefusal body) dimensions e)
       where
         go : FirstOfTwo r (magicRefusal body) dimensions → ValidationStops body size r
         go (by-first m) = magic-wrong (first-only r (magicCauses body) is m)
-        go (by-second z d) = dimensions-wrong (magic-passes z) (first-only r (dimensionCauses (length body) (keysIn body) (bucketsIn body) (arenaIn body)) is d)
+        go (by-second z d) = dimensions-wrong (magic-passes z) (first-only r (bodyCauses body) is d)
 
     after-header : headerRefusal body ≡ 0 → FirstOfTwo r pilots (arenaRefusal body size) → ValidationStops body size r
     after-header h (by-first e) =
@@ -128,12 +127,12 @@ module _ (body : List ℕ) (size : ℕ) where
   -- a cause has a number above 0
   stops-some : {r : ℕ} → ValidationStops body size r → 0 < r
   stops-some (magic-wrong f) = first-positive (magic-numbered body) f
-  stops-some (dimensions-wrong n f) = first-positive (dimensions-numbered (length body) (keysIn body) (bucketsIn body) (arenaIn body)) f
+  stops-some (dimensions-wrong n f) = first-positive (dimensions-numbered body) f
   stops-some (pilot-past h e i l q) = omega arith
   stops-some (arena-stops c w) = walk-some (slotRefusal body) body (Of size) w
 
   stops-refusal : {r : ℕ} → ValidationStops body size r → validationRefusal body size ≡ r
-  unfolding validationRefusal magicRefusal dimensionRefusal
+  unfolding validationRefusal magicRefusal
   stops-refusal {r} s = go s (stops-some s)
     where
       go : ValidationStops body size r → 0 < r → validationRefusal body size ≡ r
@@ -186,6 +185,6 @@ pub stops-between : {body : List ℕ} {size r : ℕ} → ValidationStops body si
 unfolding between
 stops-between {body} {size} {r} (magic-wrong f) = first-between (magicCauses body) r refl f
 stops-between {body} {size} {r} (dimensions-wrong n f) =
-    first-between (dimensionCauses (length body) (keysIn body) (bucketsIn body) (arenaIn body)) r refl f
+    first-between (bodyCauses body) r refl f
 stops-between (pilot-past h e i l q) = (omega arith, omega arith)
 stops-between (arena-stops c w) = walk-between w

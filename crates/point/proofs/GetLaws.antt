@@ -13,6 +13,7 @@ use Rattle.words.specs.Field.{le}
 use Rattle.words.specs.Field.{AllBytes}
 use Rattle.words.specs.Part.{sameAs}
 use Rattle.mixing.specs.Mixing.{hashOf, fingerprintOf}
+use Rattle.mixing.specs.Slots.{direct}
 use Rattle.layout.specs.Layout.{headerRefusal, seedIn, keysIn, arenaIn, pilotOf, directPast, slotOf, slotPlace}
 use Rattle.records.specs.declared.DataLength.the-variants.{Of}
 use Rattle.records.specs.declared.Limit.{Limit}
@@ -39,14 +40,14 @@ use Rattle.point.specs.Get.{locateHash, locateOf, openRecordOf, openAt, 
 -- ---- the slot: n keys, pilot g, slot s, fingerprint f, u the 16 bits read, arena start a, offset o
 
 module _ (body : List ℕ) (h n g : ℕ) (isn : n ≡ keysIn body) (isg : g ≡ pilotOf body h) where
-  pub near-is : g < 2147483648 + n → directPast (keysIn body) (pilotOf body h) ≡ false
-  near-is l = rw (← isn, ← isg) (lt-leb (2147483648 + n) g l)
+  pub near-is : g < direct + n → directPast (keysIn body) (pilotOf body h) ≡ false
+  near-is l = rw (← isn, ← isg) (lt-leb (direct + n) g l)
 
-  pub locate-past : 2147483648 + n ≤ g → locateHash body h ≡ located.Damaged
+  pub locate-past : direct + n ≤ g → locateHash body h ≡ located.Damaged
   unfolding locateHash
-  locate-past l = rw (← isn, ← isg, le-leb (2147483648 + n) g l)
+  locate-past l = rw (← isn, ← isg, le-leb (direct + n) g l)
 
-  module _ (l : g < 2147483648 + n) (s f u : ℕ) (iss : s ≡ slotPlace body (slotOf body h)) (isu : u ≡ le 2 body (s + 8)) (isf : f ≡ fingerprintOf h) where
+  module _ (l : g < direct + n) (s f u : ℕ) (iss : s ≡ slotPlace body (slotOf body h)) (isu : u ≡ le 2 body (s + 8)) (isf : f ≡ fingerprintOf h) where
     pub locate-other : (u ≡ f → ⊥) → locateHash body h ≡ located.Nothing
     unfolding locateHash
     locate-other ne = rw (near-is l, ← iss, ← isu, ← isf, ne-eqb u f ne)

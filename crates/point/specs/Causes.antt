@@ -8,7 +8,7 @@ use lib.ListN.{length}
 use Rattle.laws.specs.Refusals.{First, None}
 use Rattle.words.specs.Part.{sameAs}
 use Rattle.mixing.specs.Mixing.{hashOf, fingerprintOf}
-use Rattle.layout.specs.Layout.{headerRefusal, magicCauses, dimensionCauses, seedIn, keysIn, bucketsIn, arenaIn, pilotAt, pilotOf, directPast, slotPlace, recordOffset, fingerprintLow}
+use Rattle.layout.specs.Layout.{headerRefusal, magicCauses, bodyCauses, seedIn, keysIn, bucketsIn, arenaIn, pilotAt, pilotOf, directPast, slotPlace, recordOffset, fingerprintLow}
 use Rattle.records.specs.declared.DataLength.the-variants.{Of}
 use Rattle.records.specs.declared.Limit.{Limit}
 use Rattle.records.specs.declared.Record.{Record}
@@ -25,7 +25,7 @@ use Rattle.point.specs.Table.{keySlot}
 -- what stops the walk over the arena
 pub data ValidationStops (body : List ℕ) (size r : ℕ) : Type 0 where
   magic-wrong : First r (magicCauses body) → ValidationStops body size r
-  dimensions-wrong : None (magicCauses body) → First r (dimensionCauses (length body) (keysIn body) (bucketsIn body) (arenaIn body)) → ValidationStops body size r
+  dimensions-wrong : None (magicCauses body) → First r (bodyCauses body) → ValidationStops body size r
   pilot-past : headerRefusal body ≡ 0 → r ≡ 22 → (i : ℕ) → i < bucketsIn body → directPast (keysIn body) (pilotAt body i) ≡ true → ValidationStops body size r
   arena-stops : Checked body → WalkStops (slotRefusal body) body (Of size) r (arenaIn body) (arenaIn body) (keysIn body) → ValidationStops body size r
 

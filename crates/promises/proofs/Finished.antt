@@ -43,7 +43,7 @@ module _ {arena o w u o' w' u' : List ℕ} {k : ℕ} (all : AllBytes arena) (P :
 
   output-splice : o' ≡ splice o 0 (bodyOf arena (keysOf arena))
   unfolding outAfter
-  output-splice = P .out ∙ ap (λ (x : ℕ). cond (eqb x 0) (splice o 0 (bodyOf arena (keysOf arena))) o) no-refusal
+  output-splice = P .out-after ∙ ap (λ (x : ℕ). cond (eqb x 0) (splice o 0 (bodyOf arena (keysOf arena))) o) no-refusal
 
   pub output-body : take k o' ≡ bodyOf arena (keysOf arena)
   unfolding splice

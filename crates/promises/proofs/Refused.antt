@@ -55,7 +55,7 @@ module _ {arena o w u : List ℕ} {r : Finished} {o′ w′ u′ : List ℕ} (P 
 
   out-kept : (finishRefusal arena (length o) (length w) (length u) ≡ 0 → ⊥) → o′ ≡ o
   unfolding outAfter
-  out-kept n = P .out ∙ rw (ne-eqb (finishRefusal arena (length o) (length w) (length u)) 0 n)
+  out-kept n = P .out-after ∙ rw (ne-eqb (finishRefusal arena (length o) (length w) (length u)) 0 n)
 
   pub finish-refusals : FinishRefused arena o w u r o′ w′ u′
   finish-refusals =
@@ -66,8 +66,8 @@ module _ {arena o w u : List ℕ} {r : Finished} {o′ w′ u′ : List ℕ} (P 
         ten-cause = λ e. ten-attempts arena (length o) (length w) (length u) (sym given ∙ e);
         cause-ten = λ z f. given ∙ attempts-ten arena (length o) (length w) (length u) z f;
         never-eleven = λ e. never-eleven arena (length o) (length w) (length u) (sym given ∙ e);
-        wide-space = space-left _ w w′ (P .wide);
-        narrow-space = space-left _ u u′ (P .narrow);
+        wide-space = space-left _ w w′ (P .wide-after);
+        narrow-space = space-left _ u u′ (P .narrow-after);
       }
 
 get-refusals : (body key : List ℕ) → GetRefused body key

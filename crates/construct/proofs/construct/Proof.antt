@@ -12,10 +12,10 @@ use Rattle.construct.proofs.construct.Statement.{statement}
 use Rattle.construct.proofs.construct.Tie as tie
 
 abbrev Inv-loop : tie.InvT-loop
-Inv-loop arena h₀ w₀ n b i₀ h w i = (length h ≡ length h₀) × (length w ≡ length w₀) × ((q : ℕ) → q < i → attemptOf (attemptHashes arena n q) ≡ none)
+Inv-loop arena wide₀ narrow₀ n b i₀ wide narrow i = (length wide ≡ length wide₀) × (length narrow ≡ length narrow₀) × ((q : ℕ) → q < i → attemptOf (attemptHashes arena n q) ≡ none)
 
 abbrev μ-loop : tie.MeasureT-loop
-μ-loop arena h₀ w₀ n b i₀ h w i = 8 - i
+μ-loop arena wide₀ narrow₀ n b i₀ wide narrow i = 8 - i
 
 buckets-requires : tie.Need-buckets-requires Inv-loop μ-loop
 buckets-requires c κs = search needs

@@ -42,7 +42,7 @@ add-end c =
 slice-aggregate-mismatch : tie.Need-slice-aggregate-mismatch
 slice-aggregate-mismatch c =
     let long = c .before .before .before .before .before .before .pre .0 .long in
-    sym (length-take-le (c .before .before .before .before .before .before .args .n) (now (c .before .before .before .before .before .before .args .h)) (omega arith))
+    sym (length-take-le (c .before .before .before .before .before .before .args .n) (now (c .before .before .before .before .before .before .args .wide)) (omega arith))
 
 mul-mismatch : tie.Need-mul-mismatch
 mul-mismatch c =
@@ -90,9 +90,9 @@ mismatch-requires c κs =
     let any = some-buckets (a .n) (R .any) in
     let words = R .words in
     let long = R .long in
-    let p = part-long (now (a .w)) (b + 1) b (b + 1 + b) refl (omega arith) in
-    let s = part-long (now (a .w)) (b + 1 + b) (a .n) (b + 1 + b + a .n) refl (omega arith) in
-    let k = length-take-le (a .n) (now (a .h)) (omega arith) in
+    let p = part-long (now (a .narrow)) (b + 1) b (b + 1 + b) refl (omega arith) in
+    let s = part-long (now (a .narrow)) (b + 1 + b) (a .n) (b + 1 + b + a .n) refl (omega arith) in
+    let k = length-take-le (a .n) (now (a .wide)) (omega arith) in
     (omega arith, omega arith)
 
 returns : tie.Need-returns

@@ -33,12 +33,7 @@ returns-4 c =
 returns-5 : tie.Need-returns-5
 unfolding dimensionRefusal
 returns-5 c =
-    rw (ne-eqb _ _ (c .before .before .before .before .before .before .if1 .left), lt-leb _ _ (c .before .before .before .before .before .if2 .left), ← (c .before .before .before .before .buckets .ensures), eq-eqb _ _ (c .before .before .before .if3 .left), ← (c .before .before .slot-at .ensures), eq-eqb _ _ (c .before .if4 .left), le-leb _ _ (c .if5 .taken))
-
-returns-6 : tie.Need-returns-6
-unfolding dimensionRefusal
-returns-6 c =
-    rw (ne-eqb _ _ (c .before .before .before .before .before .before .if1 .left), lt-leb _ _ (c .before .before .before .before .before .if2 .left), ← (c .before .before .before .before .buckets .ensures), eq-eqb _ _ (c .before .before .before .if3 .left), ← (c .before .before .slot-at .ensures), eq-eqb _ _ (c .before .if4 .left), lt-leb _ _ (c .if5 .left))
+    rw (ne-eqb _ _ (c .before .before .before .before .before .if1 .left), lt-leb _ _ (c .before .before .before .before .if2 .left), ← (c .before .before .before .buckets .ensures), eq-eqb _ _ (c .before .before .if3 .left), ← (c .before .slot-at .ensures), eq-eqb _ _ (c .if4 .left))
 
 pub dimension-refusal-spec : {M : Type 1} → statement M
 dimension-refusal-spec =
@@ -51,5 +46,4 @@ dimension-refusal-spec =
     returns-3
     slot-at-requires
     returns-4
-    returns-5
-    returns-6)
+    returns-5)

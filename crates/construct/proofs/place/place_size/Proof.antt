@@ -10,10 +10,10 @@ use Rattle.construct.proofs.place.place_size.Statement.{statement}
 use Rattle.construct.proofs.place.place_size.Tie as tie
 
 abbrev Inv-loop : tie.InvT-loop
-Inv-loop h w₀ n b s left₀ w left = (left ≤ b) × SoFar (placeOf (take n h) s) (b - left) n b w₀ w
+Inv-loop wide narrow₀ n b s left₀ narrow left = (left ≤ b) × SoFar (placeOf (take n wide) s) (b - left) n b narrow₀ narrow
 
 abbrev μ-loop : tie.MeasureT-loop
-μ-loop h w₀ n b s left₀ w left = left
+μ-loop wide narrow₀ n b s left₀ narrow left = left
 
 loop-holds : tie.Need-loop-holds Inv-loop μ-loop
 loop-holds c = (omega arith, left-none _ _ _ _)

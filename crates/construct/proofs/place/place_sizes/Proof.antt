@@ -10,10 +10,10 @@ use Rattle.construct.proofs.place.place_sizes.Statement.{statement}
 use Rattle.construct.proofs.place.place_sizes.Tie as tie
 
 abbrev Inv-loop : tie.InvT-loop
-Inv-loop h w₀ n b top s₀ w s = (s ≤ top) × (0 < s) × SoFar (placeDown (take n h) top) (top - s) n b w₀ w
+Inv-loop wide narrow₀ n b top s₀ narrow s = (s ≤ top) × (0 < s) × SoFar (placeDown (take n wide) top) (top - s) n b narrow₀ narrow
 
 abbrev μ-loop : tie.MeasureT-loop
-μ-loop h w₀ n b top s₀ w s = s
+μ-loop wide narrow₀ n b top s₀ narrow s = s
 
 loop-holds : tie.Need-loop-holds Inv-loop μ-loop
 loop-holds c = (omega arith, omega arith, down-none _ _ _ _ _)

@@ -4,7 +4,7 @@ use native.Mathlib.Omega.{arith}
 use lib.ListN.{length}
 use borrow.Author.Count.{below-more}
 use borrow.Author.Needs.{needs}
-use Rattle.construct.specs.Layout.{FilledBelow}
+use Rattle.construct.specs.Inner.Layout.{FilledBelow}
 use Rattle.construct.proofs.single.next_free.Statement.{statement}
 use Rattle.construct.proofs.single.next_free.Tie as tie
 

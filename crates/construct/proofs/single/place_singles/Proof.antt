@@ -6,16 +6,17 @@ use native.Mathlib.Omega.{arith}
 use lib.ListN.{take}
 use borrow.Author.Needs.{needs}
 use Rattle.construct.specs.Construct.{placeOf, placeSize}
-use Rattle.construct.specs.Layout.{placing, FilledBelow}
+use Rattle.construct.specs.Inner.Layout.{FilledBelow}
+use Rattle.construct.specs.Answer.{placing}
 use Rattle.construct.proofs.BenchLaws.{SoFar, so-far-none, so-far-more, so-far-fails, so-far-all, bench-kept, bench-buckets}
 use Rattle.construct.proofs.single.place_singles.Statement.{statement}
 use Rattle.construct.proofs.single.place_singles.Tie as tie
 
 abbrev Inv-loop : tie.InvT-loop
-Inv-loop h w₀ n b from₀ k₀ w from k = (k ≤ b) × (from ≤ n) × SoFar (placeOf (take n h) 1) k n b w₀ w × FilledBelow (placing n b w .slots) from
+Inv-loop wide narrow₀ n b from₀ k₀ narrow from k = (k ≤ b) × (from ≤ n) × SoFar (placeOf (take n wide) 1) k n b narrow₀ narrow × FilledBelow (placing n b narrow .slots) from
 
 abbrev μ-loop : tie.MeasureT-loop
-μ-loop h w₀ n b from₀ k₀ w from k = b - k
+μ-loop wide narrow₀ n b from₀ k₀ narrow from k = b - k
 
 loop-holds : tie.Need-loop-holds Inv-loop μ-loop
 loop-holds c = (omega arith, omega arith, so-far-none _ _ _ _, λ x l. absurd (omega arith))

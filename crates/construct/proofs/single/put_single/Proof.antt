@@ -3,7 +3,6 @@ use mathlib.Core.Path.{refl}
 use native.Mathlib.Omega.{arith}
 use lib.ListN.{length-set}
 use borrow.Author.Needs.{needs}
-use Rattle.construct.specs.Construct.{direct}
 use Rattle.construct.proofs.BenchLaws.{bench-inside}
 use Rattle.construct.proofs.SinglesLaws.{single-key}
 use Rattle.construct.proofs.single.put_single.Statement.{statement}
@@ -21,21 +20,20 @@ mul-m c = omega (arith, bench-inside _ _ _ _ (c .before .pre .0) _ (c .before .p
 shared-slice-read-m : tie.Need-shared-slice-read-m
 shared-slice-read-m c = omega (arith, bench-inside _ _ _ _ (c .before .before .pre .0) _ (c .before .before .pre .1 .0), c .before .before .pre .1 .1)
 
-add-w : tie.Need-add-w
-add-w c =
+add-narrow : tie.Need-add-narrow
+add-narrow c =
     let pre = c .before .before .pre in
     omega (arith, single-key _ _ _ _ (pre .0) _ (pre .1 .0) (pre .1 .1), pre .0 .most)
 
-cast-w : tie.Need-cast-w
-cast-w c =
+cast-narrow : tie.Need-cast-narrow
+cast-narrow c =
     let pre = c .before .before .pre in
     omega (arith, single-key _ _ _ _ (pre .0) _ (pre .1 .0) (pre .1 .1), pre .0 .most)
 
-slice-write-w-2 : tie.Need-slice-write-w-2
-slice-write-w-2 c = simp length-set (omega (arith, c .before .before .pre .1 .0, c .before .before .pre .0 .room))
+slice-write-narrow-2 : tie.Need-slice-write-narrow-2
+slice-write-narrow-2 c = simp length-set (omega (arith, c .before .before .pre .1 .0, c .before .before .pre .0 .room))
 
 returns : tie.Need-returns
-unfolding direct
 returns c = refl
 
 pub put-single-spec : {M : Type 1} → statement M
@@ -48,8 +46,8 @@ put-single-spec =
     add-s
     mul-m
     shared-slice-read-m
-    add-w
-    cast-w
+    add-narrow
+    cast-narrow
     (λ c. search needs)
     (λ c. search needs)
     (λ c. search needs)
@@ -60,6 +58,6 @@ put-single-spec =
     (λ c. search needs)
     (λ c. search needs)
     (λ c. search needs)
-    slice-write-w-2
+    slice-write-narrow-2
     (λ c. search needs)
     returns)

@@ -12,27 +12,27 @@ use Rattle.finish.proofs.body.list_places.Statement.{statement}
 use Rattle.finish.proofs.body.list_places.Tie as tie
 
 abbrev Inv-loop : tie.InvT-loop
-Inv-loop arena h₀ n p₀ i₀ h p i =
+Inv-loop arena wide₀ n p₀ i₀ wide p i =
     (i ≤ n)
-    × (length h ≡ length h₀)
+    × (length wide ≡ length wide₀)
     × (p ≡ entryPlace arena 0 i)
-    × ((m : ℕ) → m < n → getD h m 0 ≡ getD h₀ m 0)
-    × ((m : ℕ) → m < i → getD h (n + m) 0 ≡ entryPlace arena 0 m)
+    × ((m : ℕ) → m < n → getD wide m 0 ≡ getD wide₀ m 0)
+    × ((m : ℕ) → m < i → getD wide (n + m) 0 ≡ entryPlace arena 0 m)
 
 abbrev μ-loop : tie.MeasureT-loop
-μ-loop arena h₀ n p₀ i₀ h p i = n - i
+μ-loop arena wide₀ n p₀ i₀ wide p i = n - i
 
 loop-holds : tie.Need-loop-holds Inv-loop μ-loop
 loop-holds c = (omega arith, refl, sym (entry-first _), λ m l. refl, λ m l. absurd (omega arith))
 
-add-h : tie.Need-add-h Inv-loop μ-loop
-add-h c = search needs
+add-wide : tie.Need-add-wide Inv-loop μ-loop
+add-wide c = search needs
 
-mul-h : tie.Need-mul-h Inv-loop μ-loop
-mul-h c = search needs
+mul-wide : tie.Need-mul-wide Inv-loop μ-loop
+mul-wide c = search needs
 
-slice-write-h : tie.Need-slice-write-h Inv-loop μ-loop
-slice-write-h c = search needs
+slice-write-wide : tie.Need-slice-write-wide Inv-loop μ-loop
+slice-write-wide c = search needs
 
 next-entry-requires : tie.Need-next-entry-requires Inv-loop μ-loop
 next-entry-requires c κs = entry-inside _ _ (c .before .loop .i) _ (c .before .before .before .before .pre .0) (c .before .loop .inv .2) (c .loop-test .taken)
@@ -47,7 +47,7 @@ loop-again : tie.Need-loop-again Inv-loop μ-loop
 loop-again c =
     let l = c .before .before .loop in
     let a = c .before .before .before .before .before .args in
-    let m = listed-more (now (a .arena)) (l .h) (now (a .h)) (a .n) (l .i) (l .p) (c .before .loop-test .taken) (l .inv .1 ∙ c .before .before .before .before .before .pre .1) (l .inv .2) (l .inv .3) (l .inv .4) in
+    let m = listed-more (now (a .arena)) (l .wide) (now (a .wide)) (a .n) (l .i) (l .p) (c .before .loop-test .taken) (l .inv .1 ∙ c .before .before .before .before .before .pre .1) (l .inv .2) (l .inv .3) (l .inv .4) in
     (omega arith, simp length-set (l .inv .1), c .next-entry .ensures ∙ ap (nextEntry _) (l .inv .2) ∙ sym (entry-next _ _), m .0, m .1)
 
 same-length : tie.Need-same-length Inv-loop μ-loop
@@ -65,9 +65,9 @@ list-places-spec =
     Inv-loop
     μ-loop
     loop-holds
-    add-h
-    mul-h
-    slice-write-h
+    add-wide
+    mul-wide
+    slice-write-wide
     next-entry-requires
     add-i
     loop-less

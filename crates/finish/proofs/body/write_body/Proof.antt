@@ -61,7 +61,7 @@ write-front-requires c κs =
     let f = few-buckets (c .before .before .before .before .before .before .before .before .before .before .before .args .n) in
     let words = R .words in
     let room = room-start _ _ _ _ _ R _ e in
-    let long = part-long (now (c .before .before .before .before .before .before .before .before .before .before .before .args .w)) (c .before .before .before .before .before .before .buckets .result + 1) (c .before .before .before .before .before .before .buckets .result) (c .before .before .before .before .before .before .buckets .result + 1 + c .before .before .before .before .before .before .buckets .result) refl (omega arith) in
+    let long = part-long (now (c .before .before .before .before .before .before .before .before .before .before .before .args .narrow)) (c .before .before .before .before .before .before .buckets .result + 1) (c .before .before .before .before .before .before .buckets .result) (c .before .before .before .before .before .before .buckets .result + 1 + c .before .before .before .before .before .before .buckets .result) refl (omega arith) in
     (R .most, omega arith)
 
 mul-write-slots : tie.Need-mul-write-slots

@@ -6,7 +6,7 @@ use Rattle.finish.proofs.body.write_front.Statement.{statement}
 use Rattle.finish.proofs.body.write_front.Tie as tie
 
 returns : tie.Need-returns
-returns c = front-written _ _ _ _ _ _ (let pre = c .before .before .before .before .before .before .before .before .before .before .pre .1 in omega arith) (c .before .before .before .before .before .before .write-header .ensures) (c .before .before .write-pilots .ensures)
+returns c = front-written _ _ _ _ _ _ (let pre = c .before .before .before .before .before .before .before .before .before .before .pre .1 in omega arith) (c .before .before .before .before .before .before .put-header .ensures) (c .before .before .write-pilots .ensures)
 
 pub write-front-spec : {M : Type 1} → statement M
 write-front-spec =

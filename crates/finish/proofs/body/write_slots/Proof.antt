@@ -8,7 +8,7 @@ use lib.ListN.{length, getD, take}
 use lib.Seq.{take-all}
 use Rattle.words.specs.Field.{splice}
 use Rattle.finish.specs.Body.{slotBytes}
-use Rattle.finish.specs.Needs.{listedSlot}
+use Rattle.finish.specs.Inner.Needs.{listedSlot}
 use Rattle.finish.proofs.BodyLaws.{listed-long}
 use Rattle.finish.proofs.RowLaws.{row-none, row-more}
 use borrow.Author.Needs.{needs}
@@ -16,16 +16,16 @@ use Rattle.finish.proofs.body.write_slots.Statement.{statement}
 use Rattle.finish.proofs.body.write_slots.Tie as tie
 
 abbrev Inv-loop : tie.InvT-loop
-Inv-loop out₀ at h slots n s₀ out s =
-    (n ≡ length slots) × (s ≤ n) × (length out ≡ length out₀) × (out ≡ splice out₀ at (flatMap (listedSlot h (length slots)) (take s slots)))
+Inv-loop out₀ at wide slots n s₀ out s =
+    (n ≡ length slots) × (s ≤ n) × (length out ≡ length out₀) × (out ≡ splice out₀ at (flatMap (listedSlot wide (length slots)) (take s slots)))
 
 abbrev μ-loop : tie.MeasureT-loop
-μ-loop out₀ at h slots n s₀ out s = n - s
+μ-loop out₀ at wide slots n s₀ out s = n - s
 
 loop-holds : tie.Need-loop-holds Inv-loop μ-loop
 loop-holds c =
     let a = c .before .before .before .args in
-    (refl, omega arith, refl, sym (row-none (listedSlot (now (a .h)) (length (now (a .slots)))) (now (a .out)) (a .at) (now (a .slots))))
+    (refl, omega arith, refl, sym (row-none (listedSlot (now (a .wide)) (length (now (a .slots)))) (now (a .out)) (a .at) (now (a .slots))))
 
 mul-m : tie.Need-mul-m Inv-loop μ-loop
 mul-m c = search needs
@@ -137,9 +137,9 @@ loop-again c =
       omega arith,
       p .kept .0 ∙ l .inv .2,
       p .ensures
-          ∙ ap (λ (z : ℕ). splice (l .out) (a .at + 12 * l .s) (slotBytes (getD (now (a .h)) (n + (x - 1)) 0) z)) (c .before .before .before .fingerprint .ensures)
-          ∙ ap (λ (z : List ℕ). splice z (a .at + 12 * l .s) (listedSlot (now (a .h)) n x)) (l .inv .3)
-          ∙ row-more (listedSlot (now (a .h)) n) 12 (listed-long (now (a .h)) n) (now (a .out)) (a .at) (now (a .slots)) (l .s) low room,
+          ∙ ap (λ (z : ℕ). splice (l .out) (a .at + 12 * l .s) (slotBytes (getD (now (a .wide)) (n + (x - 1)) 0) z)) (c .before .before .before .fingerprint .ensures)
+          ∙ ap (λ (z : List ℕ). splice z (a .at + 12 * l .s) (listedSlot (now (a .wide)) n x)) (l .inv .3)
+          ∙ row-more (listedSlot (now (a .wide)) n) 12 (listed-long (now (a .wide)) n) (now (a .out)) (a .at) (now (a .slots)) (l .s) low room,
     )
 
 same-length : tie.Need-same-length Inv-loop μ-loop
@@ -150,7 +150,7 @@ returns c =
     let l = c .before .loop in
     let a = c .before .before .before .before .before .args in
     let whole : length (now (a .slots)) ≤ l .s = omega arith in
-    l .inv .3 ∙ ap (λ (z : List ℕ). splice (now (a .out)) (a .at) (flatMap (listedSlot (now (a .h)) (length (now (a .slots)))) z)) (take-all (l .s) (now (a .slots)) whole)
+    l .inv .3 ∙ ap (λ (z : List ℕ). splice (now (a .out)) (a .at) (flatMap (listedSlot (now (a .wide)) (length (now (a .slots)))) z)) (take-all (l .s) (now (a .slots)) whole)
 
 pub write-slots-spec : {M : Type 1} → statement M
 write-slots-spec =

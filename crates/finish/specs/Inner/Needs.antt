@@ -1,4 +1,4 @@
--- What the functions of finish ask of what they are lent, and what they leave.
+-- Between the steps: what the functions of finish ask of what they are lent, and what they leave.
 use Prim.Native.Nat.{ℕ, _+_, _-_, _*_, _≤_, _<_}
 use mathlib.Core.Path.{_≡_}
 use mathlib.Core.Bool.{cond}
@@ -6,29 +6,31 @@ use mathlib.Core.List.{List}
 use mathlib.Core.Option.{some}
 use lib.Dec.{eqb}
 use lib.ListN.{length, getD, take}
+use Rattle.numbers.specs.Limits.{mostKeys}
 use Rattle.words.specs.Field.{splice}
 use Rattle.mixing.specs.Mixing.{hashOf, fingerprintOf}
 use Rattle.records.specs.Places.{entryPlace}
 use Rattle.construct.specs.Construct.{bucketsOf}
-use Rattle.construct.specs.Keys.{arenaKey, attemptHashes, Entries}
-use Rattle.construct.specs.Layout.{placing}
+use Rattle.construct.specs.Keys.{arenaKey, attemptHashes}
+use Rattle.construct.specs.Inner.Layout.{Entries}
+use Rattle.construct.specs.Answer.{placing}
 use Rattle.finish.specs.declared.Finished.{Finished}
 use Rattle.finish.specs.Body.{arenaStart, slotBytes, placedOf, bodyOf}
 use Rattle.finish.specs.Finish.{answered, bodyLength, placingRefusal}
 
 -- n entries inside the arena, 2n words of 64 bits, 8n + 8 words of 32 bits or more, and room for the body
-pub record Room (arena out h w : List ℕ) (n : ℕ) : Type 0 where
+pub record Room (arena out wide narrow : List ℕ) (n : ℕ) : Type 0 where
   pub any : 0 < n
-  pub most : n ≤ 65536
+  pub most : n ≤ mostKeys
   pub entries : Entries arena n
-  pub long : length h ≡ n + n
-  pub words : 8 * n + 8 ≤ length w
+  pub long : length wide ≡ n + n
+  pub words : 8 * n + 8 ≤ length narrow
   pub room : arenaStart n + length arena ≤ length out
 
 -- attempt i is taken, and left in the workspace
-pub record AttemptTaken (arena h w : List ℕ) (n i : ℕ) : Type 0 where
-  pub taken : placedOf arena n ≡ some (i, placing n (bucketsOf n) w)
-  pub hashes : take n h ≡ attemptHashes arena n i
+pub record AttemptTaken (arena wide narrow : List ℕ) (n i : ℕ) : Type 0 where
+  pub taken : placedOf arena n ≡ some (i, placing n (bucketsOf n) narrow)
+  pub hashes : take n wide ≡ attemptHashes arena n i
 
 -- the keys' hashes, and the entries' places behind them
 pub record PlacesListed (arena : List ℕ) (n : ℕ) (before after : List ℕ) : Type 0 where
@@ -37,7 +39,7 @@ pub record PlacesListed (arena : List ℕ) (n : ℕ) (before after : List ℕ) :
 
 -- the slot of the key that is held as m + 1, by what the workspace holds of it
 unfoldable pub listedSlot : List ℕ → (n held : ℕ) → List ℕ
-listedSlot h n held = slotBytes (getD h (n + (held - 1)) 0) (fingerprintOf (getD h (held - 1) 0))
+listedSlot wide n held = slotBytes (getD wide (n + (held - 1)) 0) (fingerprintOf (getD wide (held - 1) 0))
 
 -- every slot holds one of n keys
 pub record Filled (n : ℕ) (slots : List ℕ) : Type 0 where
@@ -45,9 +47,9 @@ pub record Filled (n : ℕ) (slots : List ℕ) : Type 0 where
   pub keys : (s : ℕ) → s < length slots → getD slots s 0 ≤ n
 
 -- hashes and slots from which the body is written
-pub record SlotsKnown (arena h w : List ℕ) (n seed : ℕ) : Type 0 where
-  pub hashes : (m : ℕ) → m < n → getD h m 0 ≡ hashOf seed (arenaKey arena m)
-  pub slots : Filled n (placing n (bucketsOf n) w .slots)
+pub record SlotsKnown (arena wide narrow : List ℕ) (n seed : ℕ) : Type 0 where
+  pub hashes : (m : ℕ) → m < n → getD wide m 0 ≡ hashOf seed (arenaKey arena m)
+  pub slots : Filled n (placing n (bucketsOf n) narrow .slots)
 
 -- the placing of the keys and what was written of it
 pub record BodyPost (arena out : List ℕ) (n : ℕ) (r : Finished) (out′ : List ℕ) : Type 0 where

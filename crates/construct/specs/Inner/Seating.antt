@@ -1,4 +1,4 @@
--- What the functions that seat a bucket's members ask and promise.
+-- Between the steps: what the functions that seat a bucket's members ask and promise.
 use Prim.Native.Nat.{ℕ, suc, _≤_, _<_}
 use mathlib.Core.Path.{_≡_}
 use mathlib.Core.Bool.{Bool, true, false}
@@ -6,12 +6,12 @@ use mathlib.Core.List.{List}
 use mathlib.Core.Option.{Option, none, some}
 use lib.ListN.{length, getD}
 use Rattle.laws.specs.Steps.{least}
-use Rattle.construct.specs.Construct.{tries, seat}
+use Rattle.construct.specs.Construct.{direct, tries, seat}
 
 -- hashes of some keys, fewer than 2^31, and members that are such keys
 pub record Keys (hs ms : List ℕ) : Type 0 where
   pub any : 0 < length hs
-  pub most : length hs < 2147483648
+  pub most : length hs < direct
   pub keys : (j : ℕ) → j < length ms → getD ms j 0 < length hs
 
 -- the same, and as many slots as keys

@@ -4,10 +4,9 @@ use Prim.Native.Nat.{ℕ}
 use native.Mathlib.Omega.{arith}
 use borrow.Author.Needs.{needs}
 use Rattle.mixing.proofs.SlotLaws.{few-buckets}
-use Rattle.layout.specs.Layout.{slotAt}
-use Rattle.finish.specs.Body.{arenaStart}
-use Rattle.finish.proofs.body.arena_start.Statement.{statement}
-use Rattle.finish.proofs.body.arena_start.Tie as tie
+use Rattle.layout.specs.Layout.{slotAt, arenaStart}
+use Rattle.layout.proofs.arena_start.Statement.{statement}
+use Rattle.layout.proofs.arena_start.Tie as tie
 
 slot-at-requires : tie.Need-slot-at-requires
 slot-at-requires c κs =
