@@ -2,7 +2,7 @@
 use mathlib.Core.Path.{_≡_, refl, sym, ap, _∙_, subst}
 use mathlib.Core.Bool.{Bool, true, false, cond}
 use mathlib.Core.Logic.{inl, inr}
-use mathlib.Core.List.{List}
+use mathlib.Core.List.{List, [], _∷_}
 use mathlib.Core.Option.{Option, none, some, Option·some-injective, Option·some-ne-none, Option·none-ne-some}
 use Prim.Native.Nat.{ℕ, zero, suc, _+_, _-_, _*_, _^_, _≤_, _<_}
 use native.Mathlib.Omega.{arith}
@@ -10,8 +10,8 @@ use lib.Dec.{ltb}
 use lib.ListN.{length, take, drop, replicate}
 use borrow.Author.Tests.{lt-ltb, le-ltb, ltb-false}
 use borrow.Rule.Slice.PartMut.{putMid, put-same, mid-len}
-use Rattle.laws.specs.Refusals.{None, none-here, none-more, Numbered, numbered-none, numbered-more}
-use Rattle.laws.proofs.RefusalLaws.{none-only}
+use Rattle.laws.specs.Refusals.{Cause, cause, firstOf, First, None, none-here, none-more, Numbered, numbered-none, numbered-more}
+use Rattle.laws.proofs.RefusalLaws.{first-given, none-given, none-only}
 use Rattle.laws.proofs.StepsLaws.{least-at, least-of-none, least-found, least-none, least-before}
 use Rattle.laws.proofs.Cases.{eq-or-ne}
 use Rattle.words.specs.Field.{splice}
@@ -62,38 +62,20 @@ module _ (n wide narrow out : ℕ) where
   unfolding buildRefusal
   refuse-many l = rw (lt-ltb mostHashes n l)
 
+  -- past the first check the others decide, with the cells that the code counts
   module _ (c : ℕ) (e : c ≡ cellsFor n) (few : n ≤ mostHashes) where
-    pub refuse-wide : wide < c + n → 9 ≡ buildRefusal n wide narrow out
+    abbrev lengthTests : List Cause
+    lengthTests = cause (ltb wide (c + n)) 9 ∷ cause (ltb narrow (2 * c + n)) 9 ∷ cause (ltb out (48 + c)) 6 ∷ []
+
+    lengths-decide : firstOf lengthTests ≡ buildRefusal n wide narrow out
     unfolding buildRefusal
-    refuse-wide l =
-        let k : wide < cellsFor n + n = omega arith in
-        rw (le-ltb mostHashes n few, lt-ltb wide (cellsFor n + n) k)
+    lengths-decide = rw (e, le-ltb mostHashes n few) refl
 
-    module _ (w : c + n ≤ wide) where
-      wide-passes : ltb wide (cellsFor n + n) ≡ false
-      wide-passes = let k : cellsFor n + n ≤ wide = omega arith in le-ltb wide (cellsFor n + n) k
+    pub refuse-first : {q : ℕ} → First q lengthTests → q ≡ buildRefusal n wide narrow out
+    refuse-first f = sym (first-given f) ∙ lengths-decide
 
-      pub refuse-narrow : narrow < 2 * c + n → 9 ≡ buildRefusal n wide narrow out
-      unfolding buildRefusal
-      refuse-narrow l =
-          let k : narrow < 2 * cellsFor n + n = omega arith in
-          rw (le-ltb mostHashes n few, wide-passes, lt-ltb narrow (2 * cellsFor n + n) k)
-
-      module _ (m : 2 * c + n ≤ narrow) where
-        narrow-passes : ltb narrow (2 * cellsFor n + n) ≡ false
-        narrow-passes = let k : 2 * cellsFor n + n ≤ narrow = omega arith in le-ltb narrow (2 * cellsFor n + n) k
-
-        pub refuse-out : out < 48 + c → 6 ≡ buildRefusal n wide narrow out
-        unfolding buildRefusal
-        refuse-out l =
-            let k : out < 48 + cellsFor n = omega arith in
-            rw (le-ltb mostHashes n few, wide-passes, narrow-passes, lt-ltb out (48 + cellsFor n) k)
-
-        pub refuse-none : 48 + c ≤ out → 0 ≡ buildRefusal n wide narrow out
-        unfolding buildRefusal
-        refuse-none l =
-            let k : 48 + cellsFor n ≤ out = omega arith in
-            rw (le-ltb mostHashes n few, wide-passes, narrow-passes, le-ltb out (48 + cellsFor n) k)
+    pub refuse-none : None lengthTests → 0 ≡ buildRefusal n wide narrow out
+    refuse-none f = sym (none-given f) ∙ lengths-decide
 
   pub build-numbered : Numbered (buildCauses n wide narrow out)
   build-numbered =
@@ -122,11 +104,8 @@ seed-fails true x e = absurd (Option·some-ne-none x e)
 seed-fails false x e = refl
 
 module _ (s : Sizes) (hs : List ℕ) where
-  seed-yes : (i : ℕ) → peelsBy s hs (i + 1) ≡ true → seedBy s hs i ≡ some (mixOf (i + 1))
-  seed-yes i t = ap (λ (b : Bool). cond b (some (mixOf (i + 1))) none) t
-
-  seed-no : (i : ℕ) → peelsBy s hs (i + 1) ≡ false → seedBy s hs i ≡ none
-  seed-no i t = ap (λ (b : Bool). cond b (some (mixOf (i + 1))) none) t
+  seed-by : (i : ℕ) (b : Bool) → peelsBy s hs (i + 1) ≡ b → seedBy s hs i ≡ cond b (some (mixOf (i + 1))) none
+  seed-by i b t = ap (λ (x : Bool). cond x (some (mixOf (i + 1))) none) t
 
   -- the first i attempts failed
   abbrev pub Searching : ℕ → Type 0
@@ -138,11 +117,11 @@ module _ (s : Sizes) (hs : List ℕ) where
   module _ (i : ℕ) (S : Searching i) where
     pub searching-hit : i < 100 → peelsBy s hs (i + 1) ≡ true → firstAttempt s hs ≡ some (i, mixOf (i + 1))
     unfolding firstAttempt
-    searching-hit l t = least-at (seedBy s hs) 100 i (mixOf (i + 1)) l (S .1) (seed-yes i t)
+    searching-hit l t = least-at (seedBy s hs) 100 i (mixOf (i + 1)) l (S .1) (seed-by i true t)
 
     pub searching-miss : i < 100 → peelsBy s hs (i + 1) ≡ false → Searching (i + 1)
     searching-miss l t =
-        (omega arith, λ q m. elim (eq-or-ne q i) [ inl e ↦ ap (seedBy s hs) e ∙ seed-no i t | inr d ↦ S .1 q (omega arith) ])
+        (omega arith, λ q m. elim (eq-or-ne q i) [ inl e ↦ ap (seedBy s hs) e ∙ seed-by i false t | inr d ↦ S .1 q (omega arith) ])
 
     pub searching-end : 100 ≤ i → firstAttempt s hs ≡ none
     unfolding firstAttempt
@@ -154,7 +133,7 @@ module _ (s : Sizes) (hs : List ℕ) where
 
   pub attempt-none : NonePeels → firstAttempt s hs ≡ none
   unfolding firstAttempt
-  attempt-none n = least-of-none (seedBy s hs) 100 (λ q l. seed-no q (n (q + 1) (omega arith) (omega arith)))
+  attempt-none n = least-of-none (seedBy s hs) 100 (λ q l. seed-by q false (n (q + 1) (omega arith) (omega arith)))
 
   pub none-attempt : firstAttempt s hs ≡ none → NonePeels
   unfolding firstAttempt

@@ -6,23 +6,20 @@ use mathlib.Core.Bool.{Bool, true, false, cond}
 use mathlib.Core.List.{List, _++_, append-cancel-right}
 use mathlib.Core.Logic.{_⊎_, inl, inr}
 use lib.Dec.{ltb}
-use lib.ListN.{length, getD, drop, length-drop}
+use lib.ListN.{length, getD, drop}
 use borrow.Author.Tests.{ltb-true, ltb-false, le-ltb}
 use Rattle.laws.specs.Refusals.{orElse}
 use Rattle.text.specs.Text.{decimal, readFrom, field, named}
 use Rattle.text.proofs.TextLaws.{decimal-read}
-use Rattle.layout.proofs.HeaderLaws.{headed}
 use Rattle.records.specs.Model.{Entry}
-use Rattle.point.specs.declared.Validated.the-variants.{Accepted}
 use Rattle.point.specs.Validate.{validateOf, refusalNumber}
 use Rattle.point.specs.Table.{tableOf}
-use Rattle.point.proofs.ValidateLaws.{passed}
 use Rattle.point.proofs.CauseLaws.{validate-cause, cause-validate, stops-between}
 use Rattle.lines.specs.Shown.{Rule}
 use Rattle.lines.specs.Listing.{newline, listingHeader, tableText, refusedText, limitIn, dataLengthIn, bodyIn, sizeRefusal, listingRefusal, textBy, textOf}
-use Rattle.lines.specs.Causes.{ListingStops}
+use Rattle.lines.specs.Causes.{ListingStops, Listable}
 use Rattle.lines.specs.Causes.ListingStops.{too-short, too-long, body-stops}
-use Rattle.lines.proofs.InputLaws.{Listable, size-short, size-long, taken, text-refused}
+use Rattle.lines.proofs.InputLaws.{size-short, size-long, taken, listable-long, text-refused}
 
 -- THEOREM: the listing's numbers are 16 and 20 to 30
 pub stops-numbers : {input : List ℕ} {n : ℕ} → ListingStops input n → (n ≡ 16) ⊎ ((20 ≤ n) × (n ≤ 30))
@@ -87,13 +84,9 @@ module _ (rule : Rule) where
   stops-refused input n s = text-refused rule input n (sym (stops-refusal s)) (stops-some s)
 
   -- THEOREM: of an input up to 65,536 bytes whose body is accepted the text is the table's
-  pub listed-text : (input : List ℕ) → validateOf (bodyIn input) (dataLengthIn input) ≡ Accepted → length input ≤ 65536
-      → textOf rule input ≡ tableText rule (limitIn input) (tableOf (bodyIn input))
+  pub listed-text : (input : List ℕ) → Listable input → textOf rule input ≡ tableText rule (limitIn input) (tableOf (bodyIn input))
   unfolding textOf
-  listed-text input ok short =
-      let d = headed (bodyIn input) (passed (bodyIn input) (dataLengthIn input) ok .checked .header) in
-      let long : 16 ≤ length input = omega (arith, d .long, length-drop 16 input) in
-      ap (textBy rule input) (validated-number input long short ∙ ap refusalNumber ok)
+  listed-text input t = ap (textBy rule input) (validated-number input (listable-long t) (t .short) ∙ ap refusalNumber (t .accepted))
 
   -- THEOREM: and only of such an input
   pub text-listed-only : (input : List ℕ) → textOf rule input ≡ tableText rule (limitIn input) (tableOf (bodyIn input)) → Listable input

@@ -5,7 +5,6 @@ use native.Mathlib.Omega.{arith}
 use mathlib.Core.Path.{_≡_, refl, sym, _∙_}
 use mathlib.Core.Bool.{Bool, true, false, cond}
 use mathlib.Core.List.{List, [], _∷_, _++_}
-use mathlib.Core.Option.{Option, none, some}
 use lib.Dec.{ltb}
 use lib.ListN.{length}
 use borrow.Author.Tests.{ne-eqb}
@@ -13,9 +12,8 @@ use Rattle.text.specs.Text.{digitsIn, decimal, hexDigit, hexOf, keyText, field}
 use Rattle.records.specs.declared.Kind.{Kind}
 use Rattle.records.specs.declared.Kind.the-variants.{Put, Tombstone}
 use Rattle.records.specs.declared.Record.{Record}
-use Rattle.records.specs.Model.{Entry}
-use Rattle.lines.specs.Shown.{Rule, shown, shownOne, shownCount}
-use Rattle.lines.specs.Listing.{kindWord, newline, lineCount, recordText, lineOf, lineFor, linesOf}
+use Rattle.lines.specs.Shown.{Shows}
+use Rattle.lines.specs.Listing.{kindWord, newline, lineCount, recordText, lineOf, textOfShown}
 
 count-append : (xs ys : List ℕ) → lineCount (xs ++ ys) ≡ lineCount xs + lineCount ys
 unfolding lineCount
@@ -97,14 +95,8 @@ count-line key r =
     omega
     (arith, count-key key, count-field (r .sequence), count-kind (r .kind), count-field (r .offset), count-field (r .length), count-newline)
 
-count-for : (key : List ℕ) (o : Option Record) → lineCount (lineFor key o) ≡ shownOne o
-count-for key none = empty-count
-count-for key (some r) = count-line key r
-
 -- THEOREM: S is the number of lines that follow the header
-pub lines-counted : (rule : Rule) (limit : ℕ) (t : List Entry) → lineCount (linesOf rule limit t) ≡ shownCount rule limit t
-unfolding linesOf shownCount
-lines-counted rule limit [] = empty-count
-lines-counted rule limit (e ∷ es) =
-    omega
-    (arith, count-append (lineFor (e .key) (shown rule limit e)) (linesOf rule limit es), count-for (e .key) (shown rule limit e), lines-counted rule limit es)
+pub lines-counted : (ss : List Shows) → lineCount (textOfShown ss) ≡ length ss
+unfolding textOfShown
+lines-counted [] = empty-count
+lines-counted (s ∷ ss) = omega (arith, count-append (lineOf (s .key) (s .version)) (textOfShown ss), count-line (s .key) (s .version), lines-counted ss)

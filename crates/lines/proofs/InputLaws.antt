@@ -14,21 +14,22 @@ use Rattle.words.proofs.Laws.{bytes-drop, le-lt}
 use Rattle.words.specs.Field.{AllBytes}
 use Rattle.text.specs.Inner.Written.{Ends}
 use Rattle.text.proofs.TextLaws.{decimal-short}
-use Rattle.layout.specs.Layout.{keysIn, arenaIn}
+use Rattle.layout.specs.Layout.{arenaIn}
 use Rattle.layout.proofs.HeaderLaws.{headed}
 use Rattle.records.specs.declared.DataLength.the-variants.{Of}
-use Rattle.records.specs.Model.{tableBytes, Rises}
-use Rattle.records.proofs.ReadLaws.{passed-rise}
+use Rattle.records.specs.Model.{tableBytes}
 use Rattle.point.specs.declared.Validated.{Validated}
 use Rattle.point.specs.declared.Validated.the-variants.{Accepted}
 use Rattle.point.specs.Validate.{validationRefusal, verdict, validateOf, refusalNumber}
-use Rattle.point.specs.Table.{tableOf, keyPlace}
+use Rattle.point.specs.Table.{tableOf}
 use Rattle.point.proofs.ValidateLaws.{passed}
-use Rattle.point.proofs.SlotLaws.{keys-passed, key-entered, holds-table}
+use Rattle.point.specs.Inner.Stands.{TableStands}
+use Rattle.point.proofs.SlotLaws.{accepted-stands, holds-table}
 use Rattle.lines.specs.declared.Listed.{Listed}
-use Rattle.lines.specs.Shown.{Rule, newestTombstone}
-use Rattle.lines.specs.Listing.{tableText, refusedText, limitIn, dataLengthIn, bodyIn, sizeRefusal, listingRefusal, textBy, textOf, Lists, Listing}
-use Rattle.lines.specs.Needs.{Whole}
+use Rattle.lines.specs.Shown.{Rule}
+use Rattle.lines.specs.Listing.{tableText, refusedText, limitIn, dataLengthIn, bodyIn, sizeRefusal, listingRefusal, textBy, textOf, Listing}
+use Rattle.lines.specs.Causes.{Listable}
+use Rattle.lines.specs.Inner.Steps.{Lists}
 use Rattle.lines.proofs.TextLaws.{refused-length}
 use Rattle.lines.proofs.RoomLaws.{table-length}
 
@@ -50,12 +51,6 @@ module _ (input : List ℕ) where
       rw (le-ltb (length input) 16 h, le-ltb 65536 (length input) g)
       (ap refusalNumber (ev ∙ ap (λ (b : List ℕ). validateOf b size) (part-to-end input 16) ∙ ap (validateOf (drop 16 input)) es))
 
--- what an input that is not refused holds
-pub record Listable (input : List ℕ) : Type 0 where
-  pub long : 16 ≤ length input
-  pub short : length input ≤ 65536
-  pub ok : validateOf (bodyIn input) (dataLengthIn input) ≡ Accepted
-
 verdict-zero : (n : ℕ) → refusalNumber (verdict n) ≡ 0 → verdict n ≡ Accepted
 verdict-zero zero e = refl
 verdict-zero (suc n) e = absurd (suc-ne-zero _ e)
@@ -69,7 +64,7 @@ taken input e =
     go : (a b : Bool) → ltb (length input) 16 ≡ a → ltb 65536 (length input) ≡ b → cond {A = ℕ} a 16 (cond b 16 0) ≡ 0 → verdict (validationRefusal (bodyIn input) (dataLengthIn input)) ≡ Accepted → Listable input
     go true b ea eb z v = absurd (suc-ne-zero _ z)
     go false true ea eb z v = absurd (suc-ne-zero _ z)
-    go false false ea eb z v = record { long = ltb-false _ _ ea; short = ltb-false _ _ eb; ok = v }
+    go false false ea eb z v = record { short = ltb-false _ _ eb; accepted = v }
 
 -- ---- the text
 
@@ -88,23 +83,12 @@ text-listed rule input e limit el = ap (textBy rule input) e ∙ sym (rw (part-t
 
 -- ---- the body
 
-accepted-whole : (body : List ℕ) (size : ℕ) → validateOf body size ≡ Accepted → Whole body
-unfolding keyPlace
-accepted-whole body size ok =
-    let h = headed body (passed body size ok .checked .header) in
-    record {
-      long = h .long;
-      arena = omega arith;
-      all = record { each = λ i l. let k = key-entered body size ok i l .rules in record { size = size; whole = k .key .whole; next = k .next; versions = k .versions } };
-    }
+-- an accepted body has a header
+pub listable-long : {input : List ℕ} → Listable input → 16 ≤ length input
+listable-long {input} t = omega (arith, headed (bodyIn input) (passed (bodyIn input) (dataLengthIn input) (t .accepted) .checked .header) .long, length-drop 16 input)
 
--- the keys of an accepted body rise
-pub accepted-rises : (body : List ℕ) (size : ℕ) → validateOf body size ≡ Accepted → Rises (tableOf body)
-unfolding tableOf
-accepted-rises body size ok = passed-rise (arenaIn body) (arenaIn body) (keysIn body) (keys-passed body size ok)
-
-pub taken-whole : {input : List ℕ} → Listable input → Whole (take (length input - 16) (drop 16 input))
-taken-whole {input} t = rw (part-to-end input 16) (accepted-whole (bodyIn input) (dataLengthIn input) (t .ok))
+pub listable-stands : {input : List ℕ} → Listable input → TableStands (take (length input - 16) (drop 16 input))
+listable-stands {input} t = rw (part-to-end input 16) (accepted-stands (bodyIn input) (dataLengthIn input) (t .accepted))
 
 -- ---- room
 
@@ -113,16 +97,16 @@ listed-length : (rule : Rule) (input : List ℕ) (limit : ℕ) → Listable inpu
 listed-length rule input limit t all el =
     let body = bodyIn input in
     let bytes : AllBytes body = bytes-drop 16 input all in
-    let h = headed body (passed body (dataLengthIn input) (t .ok) .checked .header) in
-    let u = holds-table body (dataLengthIn input) (t .ok) bytes in
+    let h = headed body (passed body (dataLengthIn input) (t .accepted) .checked .header) in
+    let u = holds-table body (dataLengthIn input) (t .accepted) bytes in
     let l : limit < 2 ^ 64 = rw el (le-lt 8 input 0 all) in
     let n : length (tableOf body) < 2 ^ 64 = omega (arith, u .count, le-lt 4 body 16 bytes) in
     let s : length (tableBytes (tableOf body)) ≡ length input - 16 - arenaIn body = sym (ap length (u .bytes)) ∙ simp length-drop in
     omega (arith, length-drop 16 input, table-length (Of (dataLengthIn input)) rule limit (tableOf body) (u .rules .entries) l n)
 
-pub taken-ends : {input : List ℕ} → Listable input → AllBytes input → (limit : ℕ) → limit ≡ limitIn input → Ends 0 (tableText newestTombstone limit (tableOf (take (length input - 16) (drop 16 input))))
-taken-ends {input} t all limit el =
-    rw (part-to-end input 16) (record { inside = omega (arith, listed-length newestTombstone input limit t all el, t .short) })
+pub listable-ends : (rule : Rule) {input : List ℕ} → Listable input → AllBytes input → (limit : ℕ) → limit ≡ limitIn input → Ends 0 (tableText rule limit (tableOf (take (length input - 16) (drop 16 input))))
+listable-ends rule {input} t all limit el =
+    rw (part-to-end input 16) (record { inside = omega (arith, listed-length rule input limit t all el, t .short) })
 
 -- ---- the answer
 

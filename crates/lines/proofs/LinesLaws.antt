@@ -1,9 +1,9 @@
 -- The walk that writes the lines, an entry at a time. Assumes nothing.
-use Prim.Native.Nat.{ℕ, suc, _+_, _-_, _<_, _≤_}
+use Prim.Native.Nat.{ℕ, _+_, _-_, _<_, _≤_}
 use native.Mathlib.Nat.{zero-add, add-zero}
 use native.Mathlib.Omega.{arith}
 use mathlib.Core.Path.{_≡_, refl, sym, ap, _∙_}
-use mathlib.Core.List.{List, [], _∷_, _++_}
+use mathlib.Core.List.{List, [], _++_, append-nil}
 use mathlib.Core.Option.{Option, none}
 use lib.ListN.{length, length-append}
 use lib.Seq.{sets}
@@ -15,71 +15,52 @@ use Rattle.layout.specs.Layout.{keysIn, arenaIn}
 use Rattle.records.specs.declared.Record.{Record}
 use Rattle.records.specs.declared.Within.the-variants.{Found}
 use Rattle.records.specs.Within.{foundOf}
-use Rattle.records.specs.Places.{nextEntry, entryAt, entriesFrom, entryPlace}
+use Rattle.records.specs.Places.{nextEntry, entryAt, entriesFrom}
+use Rattle.records.specs.Inner.Stands.{EntriesStand}
+use Rattle.records.proofs.ModelLaws.{found-some}
 use Rattle.records.proofs.PassedLaws.{entries-count}
+use Rattle.records.proofs.StandsLaws.{stands-on, entries-on}
 use Rattle.point.specs.Table.{tableOf}
+use Rattle.point.specs.Inner.Stands.{TableStands}
 use Rattle.lines.specs.declared.Lines.{Lines}
-use Rattle.lines.specs.Shown.{newestTombstone, shown, shownOne, shownCount}
-use Rattle.lines.specs.Listing.{lineOf, lineFor, linesOf, Lined}
-use Rattle.lines.specs.Needs.{Stands, AllStand, Whole}
-use Rattle.lines.proofs.ShownLaws.{found-some, shown-few}
+use Rattle.lines.specs.Shown.{Rule, shown, Shows, showsFor, shownBy, shownOf}
+use Rattle.lines.specs.Listing.{lineOf, textOfShown}
+use Rattle.lines.specs.Inner.Steps.{Lined}
+use Rattle.lines.proofs.ShownLaws.{shows-text, shows-count, shown-few}
 
--- the lines of the k entries from p on, and how many there are
-abbrev pub linesFrom : ℕ → List ℕ → (p k : ℕ) → List ℕ
-linesFrom limit body p k = linesOf newestTombstone limit (entriesFrom body p k)
+module _ (rule : Rule) (limit : ℕ) (body : List ℕ) where
+  -- what the k entries from p on show
+  abbrev pub shownFrom : (p k : ℕ) → List Shows
+  shownFrom p k = shownOf rule limit (entriesFrom body p k)
 
-abbrev pub countFrom : ℕ → List ℕ → (p k : ℕ) → ℕ
-countFrom limit body p k = shownCount newestTombstone limit (entriesFrom body p k)
+  module _ (p k : ℕ) where
+    module _ (some : 0 < k) where
+      shown-on : shownFrom p k ≡ showsFor (entryAt body p .key) (shown rule limit (entryAt body p)) (shownFrom (nextEntry body p) (k - 1))
+      unfolding shownOf
+      shown-on = ap (shownOf rule limit) (entries-on body p k some)
 
--- the line of the entry at p, and whether there is one
-abbrev pub lineAt : ℕ → List ℕ → ℕ → List ℕ
-lineAt limit body p = lineFor (entryAt body p .key) (shown newestTombstone limit (entryAt body p))
+      text-on : textOfShown (shownFrom p k) ≡ textOfShown (shownBy rule limit (entryAt body p)) ++ textOfShown (shownFrom (nextEntry body p) (k - 1))
+      text-on = ap textOfShown shown-on ∙ shows-text (entryAt body p .key) (shown rule limit (entryAt body p)) (shownFrom (nextEntry body p) (k - 1))
 
-abbrev pub countAt : ℕ → List ℕ → ℕ → ℕ
-countAt limit body p = shownOne (shown newestTombstone limit (entryAt body p))
+      count-on : length (shownFrom p k) ≡ length (shownBy rule limit (entryAt body p)) + length (shownFrom (nextEntry body p) (k - 1))
+      count-on = ap length shown-on ∙ shows-count (entryAt body p .key) (shown rule limit (entryAt body p)) (shownFrom (nextEntry body p) (k - 1))
 
-module _ (limit : ℕ) (body : List ℕ) (p k : ℕ) (some : 0 < k) where
-  entries-on : entriesFrom body p k ≡ entryAt body p ∷ entriesFrom body (nextEntry body p) (k - 1)
-  unfolding entriesFrom
-  entries-on = let e : k ≡ suc (k - 1) = omega arith in ap (entriesFrom body p) e
-
-  lines-on : linesFrom limit body p k ≡ lineAt limit body p ++ linesFrom limit body (nextEntry body p) (k - 1)
-  unfolding linesOf
-  lines-on = ap (linesOf newestTombstone limit) entries-on
-
-  count-on : countFrom limit body p k ≡ countAt limit body p + countFrom limit body (nextEntry body p) (k - 1)
-  unfolding shownCount
-  count-on = ap (shownCount newestTombstone limit) entries-on
-
-lines-end : (limit : ℕ) (body : List ℕ) (p k : ℕ) → k ≤ 0 → linesFrom limit body p k ≡ []
-unfolding linesOf entriesFrom
-lines-end limit body p k h = let e : k ≡ 0 = omega arith in rw e
-
-count-end : (limit : ℕ) (body : List ℕ) (p k : ℕ) → k ≤ 0 → countFrom limit body p k ≡ 0
-unfolding shownCount entriesFrom
-count-end limit body p k h = let e : k ≡ 0 = omega arith in rw e
-
--- ---- entries that stand
-
-pub stands-here : {body : List ℕ} {p k : ℕ} → AllStand body p k → 0 < k → Stands body p
-unfolding entryPlace
-stands-here s h = s .each 0 h
-
-stands-on : {body : List ℕ} {p k : ℕ} → AllStand body p k → 0 < k → AllStand body (nextEntry body p) (k - 1)
-unfolding entryPlace
-stands-on s h = record { each = λ i l. s .each (suc i) (omega arith) }
+    shown-end : k ≤ 0 → shownFrom p k ≡ []
+    unfolding shownOf entriesFrom
+    shown-end h = let e : k ≡ 0 = omega arith in rw e
 
 -- ---- the walk: k entries are left from p on, and what was written with their lines is the whole
 
-pub record Going (limit : ℕ) (before : List ℕ) (at : ℕ) (body out : List ℕ) (end shown p left : ℕ) : Type 0 where
-  pub stand : AllStand body p left
-  pub buffer : sets out end (linesFrom limit body p left) ≡ sets before at (linesFrom limit body (arenaIn body) (keysIn body))
-  pub place : end + length (linesFrom limit body p left) ≡ at + length (linesFrom limit body (arenaIn body) (keysIn body))
-  pub count : shown + countFrom limit body p left ≡ countFrom limit body (arenaIn body) (keysIn body)
+pub record Going (rule : Rule) (limit : ℕ) (before : List ℕ) (at : ℕ) (body out : List ℕ) (end shown p left : ℕ) : Type 0 where
+  pub stand : EntriesStand body p left
+  pub buffer : sets out end (textOfShown (shownFrom rule limit body p left)) ≡ sets before at (textOfShown (shownFrom rule limit body (arenaIn body) (keysIn body)))
+  pub place : end + length (textOfShown (shownFrom rule limit body p left)) ≡ at + length (textOfShown (shownFrom rule limit body (arenaIn body) (keysIn body)))
+  pub count : shown + length (shownFrom rule limit body p left) ≡ length (shownFrom rule limit body (arenaIn body) (keysIn body))
   pub size : length out ≡ length before
 
-pub going-first : (limit : ℕ) (before : List ℕ) (at : ℕ) (body : List ℕ) (p left : ℕ) → Whole body → p ≡ arenaIn body → left ≡ keysIn body → Going limit before at body before at 0 p left
-going-first limit before at body p left w ep el =
+pub going-first : (rule : Rule) (limit : ℕ) (before : List ℕ) (at : ℕ) (body : List ℕ) (p left : ℕ) → TableStands body → p ≡ arenaIn body → left ≡ keysIn body
+    → Going rule limit before at body before at 0 p left
+going-first rule limit before at body p left w ep el =
     record {
       stand = rw (ep, el) (w .all);
       buffer = rw (ep, el);
@@ -88,58 +69,69 @@ going-first limit before at body p left w ep el =
       size = refl;
     }
 
-module _ {limit : ℕ} {before : List ℕ} {at : ℕ} {body out : List ℕ} {end shown p left : ℕ} (g : Going limit before at body out end shown p left) where
+module _ {rule : Rule} {limit : ℕ} {before : List ℕ} {at : ℕ} {body out : List ℕ} {end shown p left : ℕ} (g : Going rule limit before at body out end shown p left) where
   module _ (some : 0 < left) where
-    sum-on : length (linesFrom limit body p left) ≡ length (lineAt limit body p) + length (linesFrom limit body (nextEntry body p) (left - 1))
-    sum-on = ap length (lines-on limit body p left some) ∙ length-append (lineAt limit body p) (linesFrom limit body (nextEntry body p) (left - 1))
+    sum-on : length (textOfShown (shownFrom rule limit body p left))
+        ≡ length (textOfShown (shownBy rule limit (entryAt body p))) + length (textOfShown (shownFrom rule limit body (nextEntry body p) (left - 1)))
+    sum-on =
+        ap length (text-on rule limit body p left some)
+        ∙ length-append (textOfShown (shownBy rule limit (entryAt body p))) (textOfShown (shownFrom rule limit body (nextEntry body p) (left - 1)))
 
-    pub going-room : Ends at (linesFrom limit body (arenaIn body) (keysIn body)) → Ends end (lineAt limit body p)
+    pub going-room : Ends at (textOfShown (shownFrom rule limit body (arenaIn body) (keysIn body))) → Ends end (textOfShown (shownBy rule limit (entryAt body p)))
     going-room e = record { inside = omega (arith, sum-on, g .place, e .inside) }
 
     -- the count fits a word of 32 bits
-    pub going-count : AllBytes body → shown + countAt limit body p < 4294967296
+    pub going-count : AllBytes body → shown + length (shownBy rule limit (entryAt body p)) < 4294967296
     going-count all =
         omega
-        (arith, count-on limit body p left some, g .count, shown-few newestTombstone limit (entriesFrom body (arenaIn body) (keysIn body)), entries-count body (arenaIn body) (keysIn body), le-lt 4 body 16 all)
+        (arith, count-on rule limit body p left some, g .count, shown-few rule limit (entriesFrom body (arenaIn body) (keysIn body)), entries-count body (arenaIn body) (keysIn body), le-lt 4 body 16 all)
 
-    module _ (after : List ℕ) (l : Lines) (q : ℕ) (put : Lined (lineAt limit body p) (countAt limit body p) out end after l) (same : length after ≡ length out) (eq : q ≡ nextEntry body p) where
-      pub going-on : Going limit before at body after (l .end) (shown + l .shown) q (left - 1)
+    module _ (after : List ℕ) (l : Lines) (q : ℕ) (put : Lined (shownBy rule limit (entryAt body p)) out end after l) (same : length after ≡ length out) (eq : q ≡ nextEntry body p) where
+      pub going-on : Going rule limit before at body after (l .end) (shown + l .shown) q (left - 1)
       going-on =
           rw eq
           (record {
-            stand = stands-on (g .stand) some;
+            stand = stands-on some (g .stand);
             buffer =
                 rw (put .written .buffer, put .written .place)
-                (sym (sets-append out end (lineAt limit body p) (linesFrom limit body (nextEntry body p) (left - 1)))
-                ∙ ap (sets out end) (sym (lines-on limit body p left some))
+                (sym (sets-append out end (textOfShown (shownBy rule limit (entryAt body p))) (textOfShown (shownFrom rule limit body (nextEntry body p) (left - 1))))
+                ∙ ap (sets out end) (sym (text-on rule limit body p left some))
                 ∙ g .buffer);
             place = omega (arith, put .written .place, sum-on, g .place);
-            count = omega (arith, put .counted, count-on limit body p left some, g .count);
+            count = omega (arith, put .counted, count-on rule limit body p left some, g .count);
             size = same ∙ g .size;
           })
 
   -- none is left
-  pub going-end : left ≤ 0 → Lined (linesOf newestTombstone limit (tableOf body)) (shownCount newestTombstone limit (tableOf body)) before at out (record { end = end; shown = shown })
-  unfolding tableOf
+  pub going-end : left ≤ 0 → Lined (shownOf rule limit (tableOf body)) before at out (record { end = end; shown = shown })
+  unfolding tableOf textOfShown
   going-end h =
-      let n = lines-end limit body p left h in
+      let n = shown-end rule limit body p left h in
       record {
         written =
             record {
-              buffer = sym (ap (sets out end) n) ∙ g .buffer;
-              place = omega (arith, ap length n, g .place);
+              buffer = sym (ap (λ (ss : List Shows). sets out end (textOfShown ss)) n) ∙ g .buffer;
+              place = omega (arith, ap (λ (ss : List Shows). length (textOfShown ss)) n, g .place);
             };
-        counted = omega (arith, count-end limit body p left h, g .count);
+        counted = omega (arith, ap length n, g .count);
       }
 
 -- ---- an entry's line
 
-pub line-ends : {at : ℕ} (key : List ℕ) (o : Option Record) (r : Record) → foundOf o ≡ Found r → Ends at (lineFor key o) → Ends at (lineOf key r)
-line-ends key o r e h = rw (found-some o r e) at h
+module _ (key : List ℕ) (o : Option Record) where
+  -- it shows r
+  module _ (r : Record) (e : foundOf o ≡ Found r) where
+    line-is : textOfShown (showsFor key o []) ≡ lineOf key r
+    unfolding textOfShown
+    line-is = rw (found-some o r e) (append-nil (lineOf key r))
 
-pub lined-some : {before after : List ℕ} {at end : ℕ} (key : List ℕ) (o : Option Record) (r : Record) → foundOf o ≡ Found r → WrittenAt before at (lineOf key r) after end
-    → Lined (lineFor key o) (shownOne o) before at after (record { end = end; shown = 1 })
-lined-some key o r e w = rw (found-some o r e) (record { written = w; counted = refl })
+    pub line-ends : {at : ℕ} → Ends at (textOfShown (showsFor key o [])) → Ends at (lineOf key r)
+    line-ends h = rw line-is at h
 
-pub lined-none : {before : List ℕ} {at : ℕ} (key : List ℕ) (o : Option Record) → o ≡ none → Lined (lineFor key o) (shownOne o) before at before (record { end = at; shown = 0 })
-lined-none {before} {at} key o e = rw e (record { written = record { buffer = refl; place = sym (add-zero at) }; counted = refl })
+    pub lined-some : {before after : List ℕ} {at end : ℕ} → WrittenAt before at (lineOf key r) after end → Lined (showsFor key o []) before at after (record { end = end; shown = 1 })
+    lined-some w = record { written = rw line-is w; counted = rw (found-some o r e) }
+
+  -- it shows none
+  pub lined-none : {before : List ℕ} {at : ℕ} → o ≡ none → Lined (showsFor key o []) before at before (record { end = at; shown = 0 })
+  unfolding textOfShown
+  lined-none {before} {at} e = rw e (record { written = record { buffer = refl; place = sym (add-zero at) }; counted = refl })

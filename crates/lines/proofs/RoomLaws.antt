@@ -15,12 +15,12 @@ use Rattle.records.specs.declared.Kind.{Kind}
 use Rattle.records.specs.declared.Kind.the-variants.{Put, Tombstone}
 use Rattle.records.specs.declared.Limit.the-variants.{UpTo}
 use Rattle.records.specs.declared.Record.{Record}
-use Rattle.records.specs.Model.{Entry, entryBytes, tableBytes, greatest}
+use Rattle.records.specs.Model.{Entry, entryBytes, tableBytes, recordWithin}
 use Rattle.records.specs.Tables.{RecordRules, EntryRules}
 use Rattle.records.proofs.ModelLaws.{greatest-has}
 use Rattle.records.proofs.WriteLaws.{entry-size}
-use Rattle.lines.specs.Shown.{Rule, shown, shownCount}
-use Rattle.lines.specs.Listing.{limitWord, keysWord, shownWord, kindWord, newline, recordText, lineOf, lineFor, linesOf, listingHeader, tableText}
+use Rattle.lines.specs.Shown.{Rule, shown, showsFor, shownOf}
+use Rattle.lines.specs.Listing.{limitWord, keysWord, shownWord, kindWord, newline, recordText, lineOf, textOfShown, linesOf, listingHeader, tableText}
 use Rattle.lines.proofs.ShownLaws.{shown-few}
 use Rattle.lines.proofs.TextLaws.{named-length}
 
@@ -30,7 +30,7 @@ pub shown-of : {P : Record → Type 0} (rule : Rule) (limit : ℕ) (e : Entry) (
 unfolding shown
 shown-of {P} rule limit e r u q = go (rule limit e) q
   where
-    go : (b : Bool) → cond b none (greatest (UpTo limit) (e .versions)) ≡ some r → P r
+    go : (b : Bool) → cond b none (recordWithin (UpTo limit) e) ≡ some r → P r
     go true f = absurd (let z : _≡_ {A = ℕ} 0 1 = cc in omega arith)
     go false f = greatest-has (UpTo limit) (e .versions) r u f
 
@@ -65,19 +65,17 @@ line-length : (test : DataLength) (key : List ℕ) (r : Record) → RecordRules 
 unfolding lineOf
 line-length test key r u = omega (arith, length-append (keyText key) (recordText r), key-text-length key, record-length test r u)
 
-entry-length : (test : DataLength) (rule : Rule) (limit : ℕ) (e : Entry) → EntryRules test e → length (lineFor (e .key) (shown rule limit e)) ≤ 2 * length (entryBytes e)
-entry-length test rule limit e u = go (shown rule limit e) refl
-  where
-    go : (o : Option Record) → shown rule limit e ≡ o → length (lineFor (e .key) o) ≤ 2 * length (entryBytes e)
-    go none q = omega arith
-    go (some r) q = omega (arith, line-length test (e .key) r (shown-of rule limit e r (u .versions) q), entry-size e, u .some)
-
 pub lines-length : (test : DataLength) (rule : Rule) (limit : ℕ) (t : List Entry) → Each (EntryRules test) t → length (linesOf rule limit t) ≤ 2 * length (tableBytes t)
-unfolding linesOf tableBytes
+unfolding textOfShown shownOf tableBytes
 lines-length test rule limit [] u = omega arith
-lines-length test rule limit (e ∷ es) (each-more p ps) =
-    omega
-    (arith, length-append (lineFor (e .key) (shown rule limit e)) (linesOf rule limit es), length-append (entryBytes e) (tableBytes es), entry-length test rule limit e p, lines-length test rule limit es ps)
+lines-length test rule limit (e ∷ es) (each-more p ps) = go (shown rule limit e) refl (lines-length test rule limit es ps)
+  where
+    go : (o : Option Record) → shown rule limit e ≡ o → length (linesOf rule limit es) ≤ 2 * length (tableBytes es)
+        → length (textOfShown (showsFor (e .key) o (shownOf rule limit es))) ≤ 2 * length (entryBytes e ++ tableBytes es)
+    go none q h = omega (arith, length-append (entryBytes e) (tableBytes es))
+    go (some r) q h =
+        omega
+        (arith, length-append (lineOf (e .key) r) (linesOf rule limit es), length-append (entryBytes e) (tableBytes es), line-length test (e .key) r (shown-of rule limit e r (p .versions) q), entry-size e, p .some)
 
 -- ---- the header and the whole
 
@@ -92,4 +90,4 @@ unfolding tableText
 table-length test rule limit t u l n =
     let c = shown-few rule limit t in
     omega
-    (arith, length-append (listingHeader limit (length t) (shownCount rule limit t)) (linesOf rule limit t), header-length limit (length t) (shownCount rule limit t) l n (omega arith), lines-length test rule limit t u)
+    (arith, length-append (listingHeader limit (length t) (length (shownOf rule limit t))) (linesOf rule limit t), header-length limit (length t) (length (shownOf rule limit t)) l n (omega arith), lines-length test rule limit t u)

@@ -1,68 +1,66 @@
--- What a whole entry shows, by what the searches over its versions find. Assumes nothing.
-use Prim.Native.Nat.{ℕ, _≤_}
+-- What an entry shows, by what the searches over its versions find; its line and its count before those of the entries behind it. Assumes nothing.
+use Prim.Native.Nat.{ℕ, _+_, _≤_}
+use native.Mathlib.Nat.{zero-add}
 use native.Mathlib.Omega.{arith}
 use mathlib.Core.Path.{_≡_, refl, sym, ap, _∙_}
 use mathlib.Core.Bool.{true, false}
-use mathlib.Core.List.{List, [], _∷_}
+use mathlib.Core.List.{List, [], _∷_, _++_, append-nil}
 use mathlib.Core.Option.{Option, none, some}
 use lib.ListN.{length}
-use Rattle.words.specs.Field.{AllBytes}
-use Rattle.records.specs.declared.DataLength.the-variants.{Of}
-use Rattle.records.specs.declared.Limit.{Limit}
 use Rattle.records.specs.declared.Limit.the-variants.{None, UpTo}
 use Rattle.records.specs.declared.Record.{Record}
 use Rattle.records.specs.declared.Within.{Within}
-use Rattle.records.specs.declared.Within.the-variants.{Found, Nothing}
-use Rattle.records.specs.Model.{Entry, limitOf, greatest}
-use Rattle.records.specs.Places.{versionCount, firstVersion, versionsFrom, entryAt}
-use Rattle.records.specs.Within.{firstWithin, foundOf}
-use Rattle.records.proofs.WithinLaws.{search-greatest}
-use Rattle.lines.specs.Shown.{Rule, tombstoneIn, newestTombstone, shown, shownOne, shownCount}
-use Rattle.lines.specs.Found.{tombstoneFound}
-use Rattle.lines.specs.Needs.{Stands}
+use Rattle.records.specs.declared.Within.the-variants.{Nothing}
+use Rattle.records.specs.Model.{Entry, recordWithin}
+use Rattle.records.specs.Places.{entryAt}
+use Rattle.records.specs.Within.{entryWithin, foundOf}
+use Rattle.records.specs.Inner.Stands.{EntryStands}
+use Rattle.records.proofs.WithinLaws.{entry-within}
+use Rattle.lines.specs.Shown.{Rule, tombstoneIn, newestTombstone, shown, Shows, showsFor, shownOf}
+use Rattle.lines.specs.Listing.{lineOf, textOfShown}
+use Rattle.lines.specs.Inner.Steps.{tombstoneFound}
 
--- ---- what was found
-
-pub found-some : (o : Option Record) (r : Record) → foundOf o ≡ Found r → o ≡ some r
-found-some none r e = absurd (let z : _≡_ {A = ℕ} 0 1 = cc in omega arith)
-found-some (some s) r e = cc
-
-pub found-none : (o : Option Record) → foundOf o ≡ Nothing → o ≡ none
-found-none none e = refl
-found-none (some s) e = absurd (let z : _≡_ {A = ℕ} 0 1 = cc in omega arith)
+-- ---- an entry
 
 tombstone-of : (o : Option Record) → tombstoneFound (foundOf o) ≡ tombstoneIn o
 tombstone-of none = refl
 tombstone-of (some r) = refl
 
--- ---- an entry
+module _ (body : List ℕ) (limit p : ℕ) (s : EntryStands body p) where
+  -- the rule of document 01, by the newest record found
+  pub ruled-newest : (newest : Within) → newest ≡ entryWithin body p None → newestTombstone limit (entryAt body p) ≡ tombstoneFound newest
+  unfolding newestTombstone
+  ruled-newest newest e = sym (ap tombstoneFound (e ∙ entry-within body None p s) ∙ tombstone-of (recordWithin None (entryAt body p)))
 
-module _ (body : List ℕ) (limit p first count : ℕ) (all : AllBytes body) (s : Stands body p) (ef : first ≡ firstVersion body p) (ec : count ≡ versionCount body p) where
-  searched : (l : Limit) → firstWithin body (limitOf l) first count ≡ foundOf (greatest l (versionsFrom body (firstVersion body p) (versionCount body p)))
-  searched l = rw (ef, ec) (search-greatest body (Of (s .size)) l all (versionCount body p) (firstVersion body p) (firstVersion body p) (s .versions))
-
-  module _ (newest : Within) (en : newest ≡ firstWithin body 18446744073709551615 first count) where
-    ruled : newestTombstone limit (entryAt body p) ≡ tombstoneFound newest
-    unfolding newestTombstone entryAt
-    ruled = sym (ap tombstoneFound (en ∙ searched None) ∙ tombstone-of (greatest None (versionsFrom body (firstVersion body p) (versionCount body p))))
-
-    -- its newest record is a tombstone
-    pub shown-left : tombstoneFound newest ≡ true → Nothing ≡ foundOf (shown newestTombstone limit (entryAt body p))
+  module _ (rule : Rule) where
+    -- the rule leaves it out
+    pub shown-left : rule limit (entryAt body p) ≡ true → Nothing ≡ foundOf (shown rule limit (entryAt body p))
     unfolding shown
-    shown-left t = rw (ruled ∙ t)
+    shown-left e = rw e
 
-    -- it is not
-    pub shown-found : tombstoneFound newest ≡ false → (w : Within) → w ≡ firstWithin body limit first count → w ≡ foundOf (shown newestTombstone limit (entryAt body p))
-    unfolding shown entryAt
-    shown-found t w e = rw (ruled ∙ t) (e ∙ searched (UpTo limit))
+    -- it does not
+    pub shown-found : rule limit (entryAt body p) ≡ false → (w : Within) → w ≡ entryWithin body p (UpTo limit) → w ≡ foundOf (shown rule limit (entryAt body p))
+    unfolding shown
+    shown-found e w ew = rw e (ew ∙ entry-within body (UpTo limit) p s)
 
--- ---- how many
+-- ---- what one entry shows, before what those behind it show
 
-one-few : (o : Option Record) → shownOne o ≤ 1
-one-few none = omega arith
-one-few (some r) = omega arith
+module _ (key : List ℕ) where
+  pub shows-text : (o : Option Record) (ss : List Shows) → textOfShown (showsFor key o ss) ≡ textOfShown (showsFor key o []) ++ textOfShown ss
+  unfolding textOfShown
+  shows-text none ss = refl
+  shows-text (some r) ss = ap (λ (l : List ℕ). l ++ textOfShown ss) (sym (append-nil (lineOf key r)))
 
-pub shown-few : (rule : Rule) (limit : ℕ) (table : List Entry) → shownCount rule limit table ≤ length table
-unfolding shownCount
+  pub shows-count : (o : Option Record) (ss : List Shows) → length (showsFor key o ss) ≡ length (showsFor key o []) + length ss
+  shows-count none ss = sym (zero-add (length ss))
+  shows-count (some r) ss = omega arith
+
+  pub shows-few : (o : Option Record) (ss : List Shows) (n : ℕ) → length ss ≤ n → length (showsFor key o ss) ≤ n + 1
+  shows-few none ss n h = omega arith
+  shows-few (some r) ss n h = omega arith
+
+-- a table shows no more keys than it has
+pub shown-few : (rule : Rule) (limit : ℕ) (table : List Entry) → length (shownOf rule limit table) ≤ length table
+unfolding shownOf
 shown-few rule limit [] = omega arith
-shown-few rule limit (e ∷ es) = omega (arith, one-few (shown rule limit e), shown-few rule limit es)
+shown-few rule limit (e ∷ es) = omega (arith, shows-few (e .key) (shown rule limit e) (shownOf rule limit es) (length es) (shown-few rule limit es))

@@ -17,8 +17,9 @@ use Rattle.records.specs.Model.{Entry}
 use Rattle.records.proofs.PassedLaws.{entries-count}
 use Rattle.point.specs.Table.{tableOf}
 use Rattle.lines.specs.declared.Listed.the-variants.{Text, Refused}
-use Rattle.lines.specs.Shown.{newestTombstone, shownCount}
-use Rattle.lines.specs.Listing.{refusedWord, newline, linesOf, listingHeader, tableText, refusedText, listedOf, bufferOf, Lists}
+use Rattle.lines.specs.Shown.{Rule, shownOf}
+use Rattle.lines.specs.Listing.{refusedWord, newline, linesOf, listingHeader, tableText, refusedText, listedOf, bufferOf}
+use Rattle.lines.specs.Inner.Steps.{Lists}
 
 -- ---- the pieces
 
@@ -26,16 +27,17 @@ table-keys : (body : List ℕ) → length (tableOf body) ≡ keysIn body
 unfolding tableOf
 table-keys body = entries-count body (arenaIn body) (keysIn body)
 
-pub table-text : (body : List ℕ) (limit keys count : ℕ) → keys ≡ keysIn body → count ≡ shownCount newestTombstone limit (tableOf body)
-    → tableText newestTombstone limit (tableOf body) ≡ listingHeader limit keys count ++ linesOf newestTombstone limit (tableOf body)
-unfolding tableText
-table-text body limit keys count ek ec = rw (ek, ec, table-keys body)
+module _ (rule : Rule) where
+  pub table-text : (body : List ℕ) (limit keys count : ℕ) → keys ≡ keysIn body → count ≡ length (shownOf rule limit (tableOf body))
+      → tableText rule limit (tableOf body) ≡ listingHeader limit keys count ++ linesOf rule limit (tableOf body)
+  unfolding tableText
+  table-text body limit keys count ek ec = rw (ek, ec, table-keys body)
 
-pub ends-lines : {at : ℕ} (limit : ℕ) (table : List Entry) → Ends at (tableText newestTombstone limit table) → Ends at (linesOf newestTombstone limit table)
-unfolding tableText
-ends-lines limit table h =
-    let e = length-append (listingHeader limit (length table) (shownCount newestTombstone limit table)) (linesOf newestTombstone limit table) in
-    record { inside = omega (arith, h .inside) }
+  pub ends-lines : {at : ℕ} (limit : ℕ) (table : List Entry) → Ends at (tableText rule limit table) → Ends at (linesOf rule limit table)
+  unfolding tableText
+  ends-lines limit table h =
+      let e = length-append (listingHeader limit (length table) (length (shownOf rule limit table))) (linesOf rule limit table) in
+      record { inside = omega (arith, h .inside) }
 
 pub named-length : (word : List ℕ) (n : ℕ) → length (named word n) ≡ length word + 1 + length (decimal n)
 unfolding named field

@@ -1,7 +1,6 @@
--- What is promised of the listing: which keys are shown and with which record, that the header counts the lines, that keys rise, that the
+-- What is promised of the listing: which keys are shown and with which record, that keys rise, that the
 -- call's answer and buffer are fixed, its number and value, and the room that always suffices. Assumes nothing.
 use Prim.Native.Nat.{ℕ, _+_, _<_, _≤_}
-use native.Mathlib.Nat.{zero-add}
 use native.Mathlib.Omega.{arith}
 use mathlib.Core.Path.{_≡_, refl, sym, ap, _∙_, subst}
 use mathlib.Core.Bool.{Bool, true, false, cond}
@@ -20,37 +19,37 @@ use Rattle.records.specs.declared.Limit.the-variants.{None, UpTo}
 use Rattle.records.specs.declared.Record.{Record}
 use Rattle.records.specs.Model.{Entry, recordsOf, greatest, lookup, Rises}
 use Rattle.records.specs.Model.Rises.{rises-more}
-use Rattle.records.proofs.ModelLaws.{own-records}
+use Rattle.records.proofs.ModelLaws.{own-lookup}
 use Rattle.lines.specs.declared.Listed.{Listed}
 use Rattle.lines.specs.declared.Listed.the-variants.{Text, Refused}
-use Rattle.lines.specs.Shown.{Rule, tombstoneIn, newestTombstone, shown, Shows, showsFor, shownOf, ShownRise, shownOne, shownCount}
+use Rattle.lines.specs.Shown.{Rule, tombstoneIn, newestTombstone, shown, Shows, showsFor, shownOf, ShownRise}
 use Rattle.lines.specs.Shown.ShownRise.{shown-none, shown-one, shown-more}
-use Rattle.lines.specs.Listing.{lineOf, lineFor, linesOf, textOfShown, textOf, listedOf, bufferOf, listedNumber, listedValues, Listing}
+use Rattle.lines.specs.Listing.{textOf, listedOf, bufferOf, listedNumber, listedValues, Listing}
 
--- ---- a key's records in a table whose keys rise are its entry's
+-- ---- which keys are shown, by a rule that leaves a key out by its lookups in the table
 
-own-lookup : (t : List Entry) (e : Entry) (limit : Limit) → Rises t → List·Memᴰ e t → greatest limit (e .versions) ≡ lookup t (e .key) limit
-unfolding lookup
-own-lookup t e limit g m = ap (greatest limit) (sym (own-records t e g m))
+-- the rule of document 01 leaves a key out whose newest record is a tombstone
+pub newest-out : (t : List Entry) → Rises t → (limit : ℕ) (e : Entry) → List·Memᴰ e t → newestTombstone limit e ≡ tombstoneIn (lookup t (e .key) None)
+unfolding newestTombstone
+newest-out t rises limit e among = ap tombstoneIn (own-lookup t e None rises among)
 
--- ---- which keys are shown
+module _ (rule : Rule) (limit : ℕ) (t : List Entry) (rises : Rises t) (out : List ℕ → Bool) (ruled : (e : Entry) → List·Memᴰ e t → rule limit e ≡ out (e .key)) where
+  module _ (e : Entry) (among : List·Memᴰ e t) where
+    shown-is : shown rule limit e ≡ cond (out (e .key)) none (lookup t (e .key) (UpTo limit))
+    unfolding shown
+    shown-is = rw (ruled e among, own-lookup t e (UpTo limit) rises among)
 
-module _ (t : List Entry) (rises : Rises t) (e : Entry) (among : List·Memᴰ e t) (limit : ℕ) where
-  shown-is : shown newestTombstone limit e ≡ cond (tombstoneIn (lookup t (e .key) None)) none (lookup t (e .key) (UpTo limit))
-  unfolding shown newestTombstone
-  shown-is = rw (own-lookup t e None rises among, own-lookup t e (UpTo limit) rises among)
+    -- THEOREM: a key that is shown is not left out, and shows its lookup under the limit
+    pub shown-only : (r : Record) → shown rule limit e ≡ some r → (out (e .key) ≡ false) × (lookup t (e .key) (UpTo limit) ≡ some r)
+    shown-only r q = go (out (e .key)) refl (sym shown-is ∙ q)
+      where
+        go : (b : Bool) → out (e .key) ≡ b → cond b none (lookup t (e .key) (UpTo limit)) ≡ some r → (out (e .key) ≡ false) × (lookup t (e .key) (UpTo limit) ≡ some r)
+        go true p f = absurd (let z : _≡_ {A = ℕ} 0 1 = cc in omega arith)
+        go false p f = (p, f)
 
-  -- THEOREM: a key that is shown has a newest record that is no tombstone, and shows its lookup under the limit
-  pub shown-only : (r : Record) → shown newestTombstone limit e ≡ some r → (tombstoneIn (lookup t (e .key) None) ≡ false) × (lookup t (e .key) (UpTo limit) ≡ some r)
-  shown-only r q = go (tombstoneIn (lookup t (e .key) None)) refl (sym shown-is ∙ q)
-    where
-      go : (b : Bool) → tombstoneIn (lookup t (e .key) None) ≡ b → cond b none (lookup t (e .key) (UpTo limit)) ≡ some r → (tombstoneIn (lookup t (e .key) None) ≡ false) × (lookup t (e .key) (UpTo limit) ≡ some r)
-      go true p f = absurd (let z : _≡_ {A = ℕ} 0 1 = cc in omega arith)
-      go false p f = (p, f)
-
-  -- THEOREM: and every such key is shown
-  pub shown-all : (r : Record) → tombstoneIn (lookup t (e .key) None) ≡ false → lookup t (e .key) (UpTo limit) ≡ some r → shown newestTombstone limit e ≡ some r
-  shown-all r p q = shown-is ∙ rw p q
+    -- THEOREM: and every such key is shown
+    pub shown-all : (r : Record) → out (e .key) ≡ false → lookup t (e .key) (UpTo limit) ≡ some r → shown rule limit e ≡ some r
+    shown-all r p q = shown-is ∙ rw p q
 
 -- ---- by the table's lookups
 
@@ -110,45 +109,23 @@ entry-of (x ∷ xs) key limit r e = go (sameAs (x .key) key) refl e (entry-of xs
     go true q f rest = record { entry = x; among = List·Memᴰ·head refl; same = same-equal (x .key) key q }
     go false q f rest = let b = rest f in record { entry = b .entry; among = List·Memᴰ·tail (b .among); same = b .same }
 
-module _ (t : List Entry) (rises : Rises t) (limit : ℕ) where
-  -- THEOREM: a line stands only for a key whose newest record is no tombstone, and shows its lookup under the limit
-  pub line-only : (s : Shows) → List·Memᴰ s (shownOf newestTombstone limit t)
-      → (tombstoneIn (lookup t (s .key) None) ≡ false) × (lookup t (s .key) (UpTo limit) ≡ some (s .version))
+module _ (rule : Rule) (limit : ℕ) (t : List Entry) (rises : Rises t) (out : List ℕ → Bool) (ruled : (e : Entry) → List·Memᴰ e t → rule limit e ≡ out (e .key)) where
+  -- THEOREM: a line stands only for a key that is not left out, and shows its lookup under the limit
+  pub line-only : (s : Shows) → List·Memᴰ s (shownOf rule limit t) → (out (s .key) ≡ false) × (lookup t (s .key) (UpTo limit) ≡ some (s .version))
   line-only s m =
-      let b = shown-by newestTombstone limit t s m in
-      subst (λ (k : List ℕ). (tombstoneIn (lookup t k None) ≡ false) × (lookup t k (UpTo limit) ≡ some (s .version))) (b .key)
-      (shown-only t rises (b .entry) (b .among) limit (s .version) (b .shows))
+      let b = shown-by rule limit t s m in
+      subst (λ (k : List ℕ). (out k ≡ false) × (lookup t k (UpTo limit) ≡ some (s .version))) (b .key)
+      (shown-only rule limit t rises out ruled (b .entry) (b .among) (s .version) (b .shows))
 
   -- THEOREM: and for every such key
-  pub line-all : (key : List ℕ) (r : Record) → tombstoneIn (lookup t key None) ≡ false → lookup t key (UpTo limit) ≡ some r
-      → List·Memᴰ (record { key = key; version = r }) (shownOf newestTombstone limit t)
+  pub line-all : (key : List ℕ) (r : Record) → out key ≡ false → lookup t key (UpTo limit) ≡ some r → List·Memᴰ (record { key = key; version = r }) (shownOf rule limit t)
   line-all key r p q =
       let o = entry-of t key (UpTo limit) r q in
-      subst (λ (k : List ℕ). List·Memᴰ (record { key = k; version = r }) (shownOf newestTombstone limit t)) (o .same)
-      (by-shown newestTombstone limit t (o .entry) r (o .among)
-      (shown-all t rises (o .entry) (o .among) limit r (rw (o .same) p) (rw (o .same) q)))
+      subst (λ (k : List ℕ). List·Memᴰ (record { key = k; version = r }) (shownOf rule limit t)) (o .same)
+      (by-shown rule limit t (o .entry) r (o .among)
+      (shown-all rule limit t rises out ruled (o .entry) (o .among) r (rw (o .same) p) (rw (o .same) q)))
 
--- ---- the lines
-
--- THEOREM: the lines are those of the keys shown, one for each
-pub lines-shown : (rule : Rule) (limit : ℕ) (t : List Entry) → linesOf rule limit t ≡ textOfShown (shownOf rule limit t)
-unfolding linesOf textOfShown shownOf
-lines-shown rule limit [] = refl
-lines-shown rule limit (e ∷ es) = go (shown rule limit e) (lines-shown rule limit es)
-  where
-    go : (o : Option Record) → linesOf rule limit es ≡ textOfShown (shownOf rule limit es) → lineFor (e .key) o ++ linesOf rule limit es ≡ textOfShown (showsFor (e .key) o (shownOf rule limit es))
-    go none h = h
-    go (some r) h = ap (λ (l : List ℕ). lineOf (e .key) r ++ l) h
-
--- THEOREM: the number in the header is the number of lines that follow
-pub count-shown : (rule : Rule) (limit : ℕ) (t : List Entry) → shownCount rule limit t ≡ length (shownOf rule limit t)
-unfolding shownCount shownOf
-count-shown rule limit [] = refl
-count-shown rule limit (e ∷ es) = go (shown rule limit e) (count-shown rule limit es)
-  where
-    go : (o : Option Record) → shownCount rule limit es ≡ length (shownOf rule limit es) → shownOne o + shownCount rule limit es ≡ length (showsFor (e .key) o (shownOf rule limit es))
-    go none h = zero-add _ ∙ h
-    go (some r) h = let e : length (shownOf rule limit es) ≡ shownCount rule limit es = sym h in omega arith
+-- ---- the order
 
 -- a key less than every key of a table stands before what the table shows
 shown-before : (rule : Rule) (limit : ℕ) (s : Shows) (e : Entry) (es : List Entry) → orderOf (s .key) (e .key) ≡ Less → Rises (e ∷ es) → ShownRise (shownOf rule limit (e ∷ es)) → ShownRise (s ∷ shownOf rule limit (e ∷ es))

@@ -1,5 +1,4 @@
 pub mod Shown
 pub mod Listing
 pub mod Causes
-pub mod Needs
-pub mod Found
+pub mod Inner

@@ -3,13 +3,11 @@ use Prim.Native.Nat.{ℕ, zero, suc, _+_, _≤_}
 use mathlib.Core.Path.{_≡_}
 use mathlib.Core.Bool.{cond}
 use mathlib.Core.List.{List, [], _∷_, _++_}
-use mathlib.Core.Option.{Option, none, some}
 use lib.Dec.{ltb, leb, eqb}
 use lib.ListN.{length, drop}
 use Rattle.laws.specs.Refusals.{cause, firstOf, orElse}
 use Rattle.words.specs.Field.{le, splice}
 use Rattle.text.specs.Text.{keyText, field, named}
-use Rattle.text.specs.Inner.Written.{WrittenAt}
 use Rattle.records.specs.declared.Kind.{Kind}
 use Rattle.records.specs.declared.Kind.the-variants.{Put, Tombstone}
 use Rattle.records.specs.declared.Record.{Record}
@@ -18,8 +16,7 @@ use Rattle.point.specs.Validate.{validateOf, refusalNumber}
 use Rattle.point.specs.Table.{tableOf}
 use Rattle.lines.specs.declared.Listed.{Listed}
 use Rattle.lines.specs.declared.Listed.the-variants.{Text, Refused}
-use Rattle.lines.specs.declared.Lines.{Lines}
-use Rattle.lines.specs.Shown.{Rule, Shows, shown, shownCount}
+use Rattle.lines.specs.Shown.{Rule, Shows, shownOf}
 
 -- ---- the words: limit, keys, shown, refused; put, tomb
 
@@ -57,20 +54,14 @@ recordText r = field (r .sequence) ++ (kindWord (r .kind) ++ (field (r .offset) 
 unfoldable pub lineOf : List ℕ → Record → List ℕ
 lineOf key r = keyText key ++ recordText r
 
--- the line of an entry that shows a record, nothing of any other
-abbrev pub lineFor : List ℕ → Option Record → List ℕ
-lineFor key none = []
-lineFor key (some r) = lineOf key r
-
--- in key order, one line for each key shown
-unfoldable pub linesOf : Rule → ℕ → List Entry → List ℕ
-linesOf rule limit [] = []
-linesOf rule limit (e ∷ es) = lineFor (e .key) (shown rule limit e) ++ linesOf rule limit es
-
--- the same lines, of what is shown
+-- one line for each key shown, in their order
 unfoldable pub textOfShown : List Shows → List ℕ
 textOfShown [] = []
 textOfShown (s ∷ ss) = lineOf (s .key) (s .version) ++ textOfShown ss
+
+-- the lines of a table
+abbrev pub linesOf : Rule → ℕ → List Entry → List ℕ
+linesOf rule limit table = textOfShown (shownOf rule limit table)
 
 -- header: limit, keys in the body, lines that follow
 unfoldable pub listingHeader : (limit keys count : ℕ) → List ℕ
@@ -78,7 +69,7 @@ listingHeader limit keys count = named limitWord limit ++ (named keysWord keys +
 
 -- the listing of a table
 unfoldable pub tableText : Rule → ℕ → List Entry → List ℕ
-tableText rule limit table = listingHeader limit (length table) (shownCount rule limit table) ++ linesOf rule limit table
+tableText rule limit table = listingHeader limit (length table) (length (shownOf rule limit table)) ++ linesOf rule limit table
 
 -- `refused R`
 unfoldable pub refusedText : ℕ → List ℕ
@@ -131,18 +122,8 @@ abbrev pub listedValues : Listed → List ℕ
 listedValues (Text n) = n ∷ []
 listedValues (Refused r) = []
 
--- what a call that puts a text into a buffer leaves
-pub record Lists (text before : List ℕ) (r : Listed) (after : List ℕ) : Type 0 where
-  pub answer : r ≡ listedOf text before
-  pub buffer : after ≡ bufferOf text before
-
 -- what `listing` promises for every input: its answer, every byte of its buffer, and that 131,072 bytes always suffice
 pub record Listing (rule : Rule) (input before : List ℕ) (r : Listed) (after : List ℕ) : Type 0 where
   pub answer : r ≡ listedOf (textOf rule input) before
   pub buffer : after ≡ bufferOf (textOf rule input) before
   pub room : length (textOf rule input) ≤ 131072
-
--- what a writer of lines leaves: the text from `at` on, and how many lines it has
-pub record Lined (text : List ℕ) (count : ℕ) (before : List ℕ) (at : ℕ) (after : List ℕ) (l : Lines) : Type 0 where
-  pub written : WrittenAt before at text after (l .end)
-  pub counted : l .shown ≡ count

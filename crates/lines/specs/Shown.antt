@@ -1,5 +1,5 @@
 -- What a listing shows of a table, under a rule (document 01, "The listing").
-use Prim.Native.Nat.{ℕ, _+_}
+use Prim.Native.Nat.{ℕ}
 use mathlib.Core.Bool.{Bool, true, false, cond}
 use mathlib.Core.List.{List, [], _∷_}
 use mathlib.Core.Option.{Option, none, some}
@@ -10,7 +10,7 @@ use Rattle.records.specs.declared.Kind.{Kind}
 use Rattle.records.specs.declared.Kind.the-variants.{Put, Tombstone}
 use Rattle.records.specs.declared.Record.{Record}
 use Rattle.records.specs.declared.Limit.the-variants.{None, UpTo}
-use Rattle.records.specs.Model.{Entry, greatest}
+use Rattle.records.specs.Model.{Entry, recordWithin}
 
 -- a rule: whether an entry is left out under a limit
 abbrev pub Rule : Type 0
@@ -26,11 +26,11 @@ tombstoneIn (some r) = isTombstone (r .kind)
 
 -- the rule of document 01: a key whose newest record is a tombstone is left out
 unfoldable pub newestTombstone : Rule
-newestTombstone limit e = tombstoneIn (greatest None (e .versions))
+newestTombstone limit e = tombstoneIn (recordWithin None e)
 
 -- the record that an entry shows: any entry that is not left out shows its record within the limit, if there is one
 unfoldable pub shown : Rule → ℕ → Entry → Option Record
-shown rule limit e = cond (rule limit e) none (greatest (UpTo limit) (e .versions))
+shown rule limit e = cond (rule limit e) none (recordWithin (UpTo limit) e)
 
 -- a key with the record that it shows
 pub record Shows : Type 0 where
@@ -40,6 +40,10 @@ pub record Shows : Type 0 where
 abbrev pub showsFor : List ℕ → Option Record → List Shows → List Shows
 showsFor key none rest = rest
 showsFor key (some r) rest = record { key = key; version = r } ∷ rest
+
+-- what one entry shows: its key with its record, or nothing
+abbrev pub shownBy : Rule → ℕ → Entry → List Shows
+shownBy rule limit e = showsFor (e .key) (shown rule limit e) []
 
 -- the keys that a table shows, in key order, each with its record
 unfoldable pub shownOf : Rule → ℕ → List Entry → List Shows
@@ -51,13 +55,3 @@ pub data ShownRise : List Shows → Type 0 where
   shown-none : ShownRise []
   shown-one : {s : Shows} → ShownRise (s ∷ [])
   shown-more : {s t : Shows} {ss : List Shows} → orderOf (s .key) (t .key) ≡ Less → ShownRise (t ∷ ss) → ShownRise (s ∷ t ∷ ss)
-
--- one where a record is shown
-abbrev pub shownOne : Option Record → ℕ
-shownOne none = 0
-shownOne (some r) = 1
-
--- how many entries of a table show a record
-unfoldable pub shownCount : Rule → ℕ → List Entry → ℕ
-shownCount rule limit [] = 0
-shownCount rule limit (e ∷ es) = shownOne (shown rule limit e) + shownCount rule limit es

@@ -1,21 +1,24 @@
 // The listing: what the desk prints and compares by hand, as a function from input bytes to output bytes.
+use numbers::Refusal;
 use point::Validated;
 use records::Kind;
 use records::Limit;
 use records::Record;
 use records::Within;
-use records::cursor::Head;
 use records::cursor::key_at;
+use records::search::entry_within;
 use words::field;
 ghost use mathlib.Core.Path.{_≡_};
 ghost use Rattle.text.specs.Inner.Written.{Ends, WrittenAt};
 ghost use Rattle.records.specs.Places.{entryAt};
 ghost use Rattle.records.specs.Within.{foundOf};
+ghost use Rattle.records.specs.Inner.Stands.{EntryStands};
 ghost use Rattle.point.specs.Table.{tableOf};
-ghost use Rattle.lines.specs.Shown.{newestTombstone, shown, shownOne, shownCount};
-ghost use Rattle.lines.specs.Listing.{kindWord, recordText, lineOf, lineFor, linesOf, listingHeader, tableText, refusedText, listingRefusal, Lists, Listing, Lined};
-ghost use Rattle.lines.specs.Needs.{Stands, Whole};
-ghost use Rattle.lines.specs.Found.{tombstoneFound};
+ghost use Rattle.point.specs.Inner.Stands.{TableStands};
+ghost use lib.ListN.{length};
+ghost use Rattle.lines.specs.Shown.{newestTombstone, shown, shownBy, shownOf};
+ghost use Rattle.lines.specs.Listing.{kindWord, recordText, lineOf, textOfShown, linesOf, listingHeader, tableText, refusedText, listingRefusal, Listing};
+ghost use Rattle.lines.specs.Inner.Steps.{tombstoneFound, Lined, Lists};
 
 // What a listing answers: the text's length, or the refusal of a buffer that is too short for it.
 pub enum Listed {
@@ -24,12 +27,6 @@ pub enum Listed {
 }
 
 impl Listed {
-    // The refusal of an input under 16 or over 65,536 bytes: a line of the text.
-    pub const SIZE: u8 = 16;
-
-    // The refusal of a buffer that is too short.
-    pub const SHORT: u8 = 6;
-
     // The bytes before the body: u64 limit, u64 data length.
     pub const BODY: usize = 16;
 
@@ -98,22 +95,20 @@ fn tombstone_found(found: Within) -> bool
 
 // The record that the entry at p shows: its newest within the limit, unless its newest of all is a tombstone.
 fn shown_at(body: &[u8], limit: u64, p: usize) -> Within
-    requires { ⌜ Stands (now body) p ⌝ }
+    requires { ⌜ EntryStands (now body) p ⌝ }
     ensures { λ r. ⌜ r ≡ foundOf (shown newestTombstone limit (entryAt (now (body .entry)) p)) ⌝ }
 {
-    let first = p + Head::BYTES + field::u32_at(body, p) as usize;
-    let count = field::u32_at(body, p + 4);
-    let newest = records::search::first_within(body, Limit::MAX, first, count);
+    let newest = entry_within(body, p, Limit::None);
     if tombstone_found(newest) {
         return Within::Nothing;
     }
-    records::search::first_within(body, limit, first, count)
+    entry_within(body, p, Limit::UpTo(limit))
 }
 
 // Writes the line of the entry at p, if it shows a record.
 fn put_entry(out: &mut [u8], at: usize, body: &[u8], limit: u64, p: usize) -> Lines
-    requires { ⌜ Stands (now body) p × Ends at (lineFor (entryAt (now body) p .key) (shown newestTombstone limit (entryAt (now body) p))) ⌝ }
-    ensures { λ r. ⌜ Lined (lineFor (entryAt (now (body .entry)) p .key) (shown newestTombstone limit (entryAt (now (body .entry)) p))) (shownOne (shown newestTombstone limit (entryAt (now (body .entry)) p))) (now (out .entry)) at (now (out .exit)) r ⌝ }
+    requires { ⌜ EntryStands (now body) p × Ends at (textOfShown (shownBy newestTombstone limit (entryAt (now body) p))) ⌝ }
+    ensures { λ r. ⌜ Lined (shownBy newestTombstone limit (entryAt (now (body .entry)) p)) (now (out .entry)) at (now (out .exit)) r ⌝ }
 {
     let found = shown_at(body, limit, p);
     match found {
@@ -128,8 +123,8 @@ fn put_entry(out: &mut [u8], at: usize, body: &[u8], limit: u64, p: usize) -> Li
 
 // Writes the lines of a body, in key order.
 fn put_lines(out: &mut [u8], at: usize, body: &[u8], limit: u64) -> Lines
-    requires { ⌜ Whole (now body) × Ends at (linesOf newestTombstone limit (tableOf (now body))) ⌝ }
-    ensures { λ r. ⌜ Lined (linesOf newestTombstone limit (tableOf (now (body .entry)))) (shownCount newestTombstone limit (tableOf (now (body .entry)))) (now (out .entry)) at (now (out .exit)) r ⌝ }
+    requires { ⌜ TableStands (now body) × Ends at (linesOf newestTombstone limit (tableOf (now body))) ⌝ }
+    ensures { λ r. ⌜ Lined (shownOf newestTombstone limit (tableOf (now (body .entry)))) (now (out .entry)) at (now (out .exit)) r ⌝ }
 {
     let mut end = at;
     let mut shown: u64 = 0;
@@ -167,8 +162,8 @@ fn put_refused(out: &mut [u8], at: usize, refusal: u8) -> usize
 
 // How many lines a body has: they are measured, and written nowhere.
 fn count_shown(body: &[u8], limit: u64) -> u64
-    requires { ⌜ Whole (now body) × Ends 0 (linesOf newestTombstone limit (tableOf (now body))) ⌝ }
-    ensures { λ r. ⌜ r ≡ shownCount newestTombstone limit (tableOf (now (body .entry))) ⌝ }
+    requires { ⌜ TableStands (now body) × Ends 0 (linesOf newestTombstone limit (tableOf (now body))) ⌝ }
+    ensures { λ r. ⌜ r ≡ length (shownOf newestTombstone limit (tableOf (now (body .entry)))) ⌝ }
 {
     let mut none = [0u8; 0];
     let l = put_lines(&mut none, 0, body, limit);
@@ -177,7 +172,7 @@ fn count_shown(body: &[u8], limit: u64) -> u64
 
 // Writes the listing of a body that shows so many keys.
 fn put_table(out: &mut [u8], at: usize, body: &[u8], limit: u64, shown: u64) -> usize
-    requires { ⌜ Whole (now body) × (shown ≡ shownCount newestTombstone limit (tableOf (now body))) × Ends at (tableText newestTombstone limit (tableOf (now body))) ⌝ }
+    requires { ⌜ TableStands (now body) × (shown ≡ length (shownOf newestTombstone limit (tableOf (now body)))) × Ends at (tableText newestTombstone limit (tableOf (now body))) ⌝ }
     ensures { λ r. ⌜ WrittenAt (now (out .entry)) at (tableText newestTombstone limit (tableOf (now (body .entry)))) (now (out .exit)) r ⌝ }
 {
     let keys = layout::keys_in(body) as u64;
@@ -188,14 +183,14 @@ fn put_table(out: &mut [u8], at: usize, body: &[u8], limit: u64, shown: u64) -> 
 
 // Lists a body: the text is measured first, so nothing is written where the buffer is too short.
 fn list_table(out: &mut [u8], body: &[u8], limit: u64) -> Listed
-    requires { ⌜ Whole (now body) × Ends 0 (tableText newestTombstone limit (tableOf (now body))) ⌝ }
+    requires { ⌜ TableStands (now body) × Ends 0 (tableText newestTombstone limit (tableOf (now body))) ⌝ }
     ensures { λ r. ⌜ Lists (tableText newestTombstone limit (tableOf (now (body .entry)))) (now (out .entry)) r (now (out .exit)) ⌝ }
 {
     let shown = count_shown(body, limit);
     let mut none = [0u8; 0];
     let size = put_table(&mut none, 0, body, limit, shown);
     if out.len() < size {
-        return Listed::Refused(Listed::SHORT);
+        return Listed::Refused(Refusal::BUFFER);
     }
     put_table(out, 0, body, limit, shown);
     Listed::Text(size)
@@ -208,7 +203,7 @@ fn list_refusal(out: &mut [u8], refusal: u8) -> Listed
     let mut none = [0u8; 0];
     let size = put_refused(&mut none, 0, refusal);
     if out.len() < size {
-        return Listed::Refused(Listed::SHORT);
+        return Listed::Refused(Refusal::BUFFER);
     }
     put_refused(out, 0, refusal);
     Listed::Text(size)
@@ -219,10 +214,10 @@ fn refusal_of(input: &[u8]) -> u8
     ensures { λ r. ⌜ r ≡ listingRefusal (now (input .entry)) ⌝ }
 {
     if input.len() < Listed::BODY {
-        return Listed::SIZE;
+        return Refusal::INPUT;
     }
     if Listed::MAX_INPUT < input.len() {
-        return Listed::SIZE;
+        return Refusal::INPUT;
     }
     let v = point::validate(&input[Listed::BODY..], field::u64_at(input, 8));
     match v {

@@ -283,51 +283,47 @@ module _ (pos : ℕ → List ℕ) where
   degree-le v (h ∷ hs) =
       by-test (among v (pos h)) (λ e. omega (arith, degree-cons pos v h hs, ap one e, degree-le v hs)) (λ e. omega (arith, degree-cons pos v h hs, ap one e, degree-le v hs))
 
+  -- the cells of a hash change, and the tables with them
+  tables-changed : (by c : ℕ) (hs ks d x : List ℕ) (h : ℕ) → Placed c pos h → Tables pos c hs d x
+      → ((v : ℕ) → v < c → among v (pos h) ≡ true → (plus by (degree pos v hs) ≡ degree pos v ks) × (bitXor h (xors (lying pos v hs)) ≡ xors (lying pos v ks)))
+      → ((v : ℕ) → among v (pos h) ≡ false → (degree pos v hs ≡ degree pos v ks) × (xors (lying pos v hs) ≡ xors (lying pos v ks)))
+      → Tables pos c ks (changed (plus by) (pos h) d) (changed (bitXor h) (pos h) x)
+  tables-changed by c hs ks d x h ok t on off =
+      record {
+        degrees = omega (arith, length-changed (plus by) (pos h) d, t .degrees);
+        mixes = omega (arith, length-changed (bitXor h) (pos h) x, t .mixes);
+        degree-at = λ v l. by-test (among v (pos h))
+            (λ a. changed-at (plus by) (pos h) d v (omega (arith, t .degrees)) (named v a) ∙ ap (plus by) (t .degree-at v l) ∙ on v l a .0)
+            (λ a. changed-other (plus by) (pos h) d v (unnamed v a) ∙ t .degree-at v l ∙ off v a .0);
+        xor-at = λ v l. by-test (among v (pos h))
+            (λ a. changed-at (bitXor h) (pos h) x v (omega (arith, t .mixes)) (named v a) ∙ ap (bitXor h) (t .xor-at v l) ∙ on v l a .1)
+            (λ a. changed-other (bitXor h) (pos h) x v (unnamed v a) ∙ t .xor-at v l ∙ off v a .1);
+      }
+    where
+      named : (v : ℕ) → among v (pos h) ≡ true → occurs v (pos h) ≡ 1
+      named v a = omega (arith, among-once v (pos h) (ok .apart v), ap one a)
+
+      unnamed : (v : ℕ) → among v (pos h) ≡ false → occurs v (pos h) ≡ 0
+      unnamed v a = omega (arith, among-once v (pos h) (ok .apart v), ap one a)
+
   -- a hash added
   pub tables-add : (c : ℕ) (hs d x : List ℕ) (h : ℕ) → Placed c pos h → length hs + 1 < 2 ^ 32 → Tables pos c hs d x
       → Tables pos c (h ∷ hs) (changed (plus 1) (pos h) d) (changed (bitXor h) (pos h) x)
   tables-add c hs d x h ok n t =
-      record {
-        degrees = omega (arith, length-changed (plus 1) (pos h) d, t .degrees);
-        mixes = omega (arith, length-changed (bitXor h) (pos h) x, t .mixes);
-        degree-at = λ v l. by-test (among v (pos h))
-            (λ a.
-            let k : occurs v (pos h) ≡ 1 = omega (arith, among-once v (pos h) (ok .apart v), ap one a) in
-            omega (arith, changed-at (plus 1) (pos h) d v (omega (arith, t .degrees)) k, t .degree-at v l, degree-le v hs, degree-cons pos v h hs, ap one a))
-            (λ a.
-            let k : occurs v (pos h) ≡ 0 = omega (arith, among-once v (pos h) (ok .apart v), ap one a) in
-            omega (arith, changed-other (plus 1) (pos h) d v k, t .degree-at v l, degree-cons pos v h hs, ap one a));
-        xor-at = λ v l. by-test (among v (pos h))
-            (λ a.
-            changed-at (bitXor h) (pos h) x v (omega (arith, t .mixes)) (omega (arith, among-once v (pos h) (ok .apart v), ap one a))
-            ∙ ap (bitXor h) (t .xor-at v l) ∙ sym (xors-on v h hs a))
-            (λ a.
-            changed-other (bitXor h) (pos h) x v (omega (arith, among-once v (pos h) (ok .apart v), ap one a))
-            ∙ t .xor-at v l ∙ sym (xors-off v h hs a));
-      }
+      tables-changed 1 c hs (h ∷ hs) d x h ok t
+      (λ v l a. (omega (arith, degree-le v hs, degree-cons pos v h hs, ap one a), sym (xors-on v h hs a)))
+      (λ v a. (omega (arith, degree-cons pos v h hs, ap one a), sym (xors-off v h hs a)))
 
   -- a hash taken away
   pub tables-remove : (c : ℕ) (hs d x : List ℕ) (h : ℕ) → Placed c pos h → 1 ≤ occurs h hs → ((v : ℕ) → v < c → getD d v 0 < 2 ^ 32) → Tables pos c hs d x
       → Tables pos c (without h hs) (changed (plus 4294967295) (pos h) d) (changed (bitXor h) (pos h) x)
   tables-remove c hs d x h ok k small t =
-      record {
-        degrees = omega (arith, length-changed (plus 4294967295) (pos h) d, t .degrees);
-        mixes = omega (arith, length-changed (bitXor h) (pos h) x, t .mixes);
-        degree-at = λ v l. by-test (among v (pos h))
-            (λ a.
-            let m : occurs v (pos h) ≡ 1 = omega (arith, among-once v (pos h) (ok .apart v), ap one a) in
-            omega (arith, changed-at (plus 4294967295) (pos h) d v (omega (arith, t .degrees)) m, t .degree-at v l, small v l, degree-without pos v h hs k, ap one a))
-            (λ a.
-            let m : occurs v (pos h) ≡ 0 = omega (arith, among-once v (pos h) (ok .apart v), ap one a) in
-            omega (arith, changed-other (plus 4294967295) (pos h) d v m, t .degree-at v l, degree-without pos v h hs k, ap one a));
-        xor-at = λ v l. by-test (among v (pos h))
-            (λ a.
-            changed-at (bitXor h) (pos h) x v (omega (arith, t .mixes)) (omega (arith, among-once v (pos h) (ok .apart v), ap one a))
-            ∙ xor-comm h _ ∙ ap (λ (y : ℕ). bitXor y h) (t .xor-at v l ∙ sym (xors-without v h hs k) ∙ xors-on v h _ a ∙ xor-comm h _) ∙ xor-back _ h)
-            (λ a.
-            changed-other (bitXor h) (pos h) x v (omega (arith, among-once v (pos h) (ok .apart v), ap one a))
-            ∙ t .xor-at v l ∙ sym (xors-without v h hs k) ∙ xors-off v h _ a);
-      }
+      tables-changed 4294967295 c hs (without h hs) d x h ok t
+      (λ v l a. (
+        omega (arith, t .degree-at v l, small v l, degree-without pos v h hs k, ap one a),
+        xor-comm h _ ∙ ap (λ (y : ℕ). bitXor y h) (sym (xors-without v h hs k) ∙ xors-on v h _ a ∙ xor-comm h _) ∙ xor-back _ h,
+      ))
+      (λ v a. (omega (arith, degree-without pos v h hs k, ap one a), sym (xors-without v h hs k) ∙ xors-off v h _ a))
 
   -- what is noted is what is queued
   pub noted-queued : (c : ℕ) (hs d x : List ℕ) → Tables pos c hs d x → (ps : List ℕ) → Below c ps → (q : List ℕ) → queuedBy d ps q ≡ queued pos hs ps q

@@ -20,9 +20,9 @@ use Rattle.point.specs.Get.{getOf}
 use Rattle.point.specs.Table.{tableOf}
 use Rattle.lines.specs.declared.Listed.{Listed}
 use Rattle.lines.specs.declared.Listed.the-variants.{Text}
-use Rattle.lines.specs.Shown.{Rule, tombstoneIn, newestTombstone, shown, Shows, shownOf, ShownRise, shownCount}
+use Rattle.lines.specs.Shown.{Rule, tombstoneIn, newestTombstone, shown, Shows, shownOf, ShownRise}
 use Rattle.lines.specs.Listing.{lineCount, linesOf, textOfShown, listingHeader, tableText, refusedText, limitIn, dataLengthIn, bodyIn, textOf, Listing}
-use Rattle.lines.specs.Causes.{ListingStops}
+use Rattle.lines.specs.Causes.{ListingStops, Listable}
 
 -- the table that an input's body holds
 abbrev pub tableIn : List ℕ → List Entry
@@ -34,11 +34,6 @@ shownIn input = shownOf newestTombstone (limitIn input) (tableIn input)
 
 abbrev pub linesIn : List ℕ → List ℕ
 linesIn input = linesOf newestTombstone (limitIn input) (tableIn input)
-
--- an input of no more than 65,536 bytes whose body validation accepts for its data length
-pub record Listable (input : List ℕ) : Type 0 where
-  pub short : length input ≤ 65536
-  pub accepted : validateOf (bodyIn input) (dataLengthIn input) ≡ Accepted
 
 -- a call with room for the text
 pub record TextStands (rule : Rule) (input : List ℕ) (r : Listed) (after : List ℕ) : Type 0 where
@@ -88,7 +83,7 @@ pub record OnListing : Type 0 where
   pub lines : (input : List ℕ) → validateOf (bodyIn input) (dataLengthIn input) ≡ Accepted → ListedLines input
   -- the lines are those of the keys shown, one for each, in their order, and as many as the header says
   pub lines-shown : (input : List ℕ) → linesIn input ≡ textOfShown (shownIn input)
-  pub lines-counted : (input : List ℕ) → lineCount (linesIn input) ≡ shownCount newestTombstone (limitIn input) (tableIn input)
+  pub lines-counted : (input : List ℕ) → lineCount (linesIn input) ≡ length (shownIn input)
   -- the whole text of an input that can be listed: the header with its limit, the keys in its body and the lines that follow; the lines
   pub whole-text : (input : List ℕ) → Listable input
       → textOf newestTombstone input ≡ listingHeader (limitIn input) (keysIn (bodyIn input)) (lineCount (linesIn input)) ++ linesIn input

@@ -1,6 +1,6 @@
 -- Laws of the segment's exponent: it is the greatest that the power rule allows, it rises with n, and the short table of least key
 -- counts holds it. Assumes nothing.
-use mathlib.Core.Path.{_≡_, refl, sym, _∙_, subst}
+use mathlib.Core.Path.{_≡_, refl, sym, ap, _∙_, subst}
 use mathlib.Core.Bool.{Bool, true, false, cond, _&&_, and-eq-true-iff, true≢false}
 use mathlib.Core.List.{List, _∷_}
 use Prim.Native.Nat.{ℕ, zero, suc, _+_, _-_, _*_, _^_, _≤_, _<_}
@@ -10,6 +10,7 @@ use lib.Dec.{eqb}
 use lib.ListN.{getD, drop}
 use lib.Pow.{pow-mono}
 use borrow.Author.Tests.{leb-true, le-leb, eqb-true}
+use Rattle.laws.proofs.Cases.{by-test}
 use Rattle.laws.specs.Power.{PowerOfTwo}
 use Rattle.sizing.specs.Table.{leasts}
 use Rattle.sizing.specs.Sizing.{rule, exponentUpTo, sizedAs, exponentOf, segmentOf, upTo}
@@ -25,44 +26,31 @@ rule-mono k {m} {n} l t =
 greatest-le : (k m : ℕ) → exponentUpTo k m ≤ k
 unfolding exponentUpTo
 greatest-le zero m = le-refl 0
-greatest-le (suc k) m = by-test (rule (suc k) m) (greatest-le k m)
-  where
-    by-test : (b : Bool) → exponentUpTo k m ≤ k → cond b (suc k) (exponentUpTo k m) ≤ suc k
-    by-test true h = le-refl (suc k)
-    by-test false h = le-step h
+greatest-le (suc k) m = by-test (rule (suc k) m) (λ e. rw e (le-refl (suc k))) (λ e. rw e (le-step (greatest-le k m)))
 
 greatest-mono : (k : ℕ) {m n : ℕ} → m ≤ n → exponentUpTo k m ≤ exponentUpTo k n
 unfolding exponentUpTo
 greatest-mono zero l = le-refl 0
-greatest-mono (suc k) {m} {n} l = by-test (rule (suc k) m) (rule (suc k) n) (rule-mono (suc k) l) (greatest-mono k l)
-  where
-    by-test : (b d : Bool) → (b ≡ true → d ≡ true) → exponentUpTo k m ≤ exponentUpTo k n → cond b (suc k) (exponentUpTo k m) ≤ cond d (suc k) (exponentUpTo k n)
-    by-test true true f h = le-refl (suc k)
-    by-test true false f h = absurd (true≢false (sym (f refl)))
-    by-test false true f h = le-step (greatest-le k m)
-    by-test false false f h = h
+greatest-mono (suc k) {m} {n} l =
+    by-test (rule (suc k) m) (λ e. rw (e, rule-mono (suc k) l e) (le-refl (suc k)))
+    (λ e. by-test (rule (suc k) n) (λ f. rw (e, f) (le-step (greatest-le k m))) (λ f. rw (e, f) (greatest-mono k l)))
 
 -- the rule allows it, where it allows 0
 greatest-rule : (k m : ℕ) → rule 0 m ≡ true → rule (exponentUpTo k m) m ≡ true
 unfolding exponentUpTo
 greatest-rule zero m t = t
-greatest-rule (suc k) m t = by-test (rule (suc k) m) refl (greatest-rule k m t)
-  where
-    by-test : (b : Bool) → rule (suc k) m ≡ b → rule (exponentUpTo k m) m ≡ true → rule (cond b (suc k) (exponentUpTo k m)) m ≡ true
-    by-test true e h = e
-    by-test false e h = h
+greatest-rule (suc k) m t =
+    let at : Bool → Bool = λ b. rule (cond b (suc k) (exponentUpTo k m)) m in
+    by-test (rule (suc k) m) (λ e. ap at e ∙ e) (λ e. ap at e ∙ greatest-rule k m t)
 
 greatest-top : (k m j : ℕ) → j ≤ k → rule j m ≡ true → j ≤ exponentUpTo k m
 unfolding exponentUpTo
 greatest-top zero m j l t = l
-greatest-top (suc k) m j l t = by-test (rule (suc k) m) refl (λ i. greatest-top k m j i t)
-  where
-    lt : (j ≡ suc k → ⊥) → j ≤ k
-    lt d = omega arith
-
-    by-test : (b : Bool) → rule (suc k) m ≡ b → (j ≤ k → j ≤ exponentUpTo k m) → j ≤ cond b (suc k) (exponentUpTo k m)
-    by-test true e f = l
-    by-test false e f = f (lt (λ h. true≢false (sym t ∙ subst (λ (x : ℕ). rule x m ≡ false) (sym h) e)))
+greatest-top (suc k) m j l t =
+    by-test (rule (suc k) m) (λ e. rw e l)
+    (λ e.
+    let d : j ≡ suc k → ⊥ = λ h. true≢false (sym t ∙ subst (λ (x : ℕ). rule x m ≡ false) (sym h) e) in
+    rw e (greatest-top k m j (omega arith) t))
 
 pub exponent-le : (n : ℕ) → exponentOf n ≤ 18
 unfolding exponentOf

@@ -1,6 +1,6 @@
 -- A table whose row i, of a first key count and a number, runs to the next row's first key count: a test computed once at each row, and
 -- what it says at each n. Assumes nothing.
-use mathlib.Core.Path.{_≡_, refl, sym, _∙_, subst}
+use mathlib.Core.Path.{_≡_, sym, _∙_, subst}
 use mathlib.Core.Bool.{Bool, true, false, _&&_, and-eq-true-iff, false≢true}
 use mathlib.Core.List.{List, [], _∷_}
 use Prim.Native.Nat.{ℕ, zero, suc, _+_, _≤_, _<_}
@@ -9,6 +9,7 @@ use native.Mathlib.Omega.{arith}
 use lib.Dec.{leb}
 use lib.ListN.{length, getD}
 use borrow.Author.Tests.{leb-true, leb-false}
+use Rattle.laws.proofs.Cases.{by-test}
 use Rattle.sizing.specs.Sizing.{upTo}
 use Rattle.sizing.proofs.SearchLaws.{upTo-yes, upTo-no}
 
@@ -49,13 +50,10 @@ row test end i f [] (s ∷ ss) t n l h =
 row test end i f (g ∷ fs) [] t n l h = absurd (false≢true t)
 row test end i f (g ∷ fs) (s ∷ ss) t n l h =
     let p = and-eq-true-iff (test i f g s) (walk test end (suc i) g fs ss) .0 t in
-    by-test (leb g n) refl (p .0) (λ k. row test end (suc i) g fs ss (p .1) n k h)
-  where
-    by-test : (b : Bool) → leb g n ≡ b → test i f g s ≡ true → (g ≤ n → At test n (suc i + upTo fs n) (getD ss (upTo fs n) 0))
-        → At test n (i + upTo (g ∷ fs) n) (getD (s ∷ ss) (upTo (g ∷ fs) n) 0)
-    by-test true e p next =
-        subst (λ (j : ℕ). At test n (i + j) (getD (s ∷ ss) j 0)) (sym (upTo-yes g fs n (leb-true g n e)))
-        (subst (λ (j : ℕ). At test n j (getD ss (upTo fs n) 0)) (suc-add i (upTo fs n) ∙ sym (add-suc i (upTo fs n))) (next (leb-true g n e)))
-    by-test false e p next =
-        subst (λ (j : ℕ). At test n (i + j) (getD (s ∷ ss) j 0)) (sym (upTo-no g fs n (leb-false g n e)))
-        (record { first = f; next = g; from = l; below = leb-false g n e; passes = subst (λ (j : ℕ). test j f g s ≡ true) (sym (add-zero i)) p })
+    by-test (leb g n)
+    (λ e.
+    subst (λ (j : ℕ). At test n (i + j) (getD (s ∷ ss) j 0)) (sym (upTo-yes g fs n (leb-true g n e)))
+    (subst (λ (j : ℕ). At test n j (getD ss (upTo fs n) 0)) (suc-add i (upTo fs n) ∙ sym (add-suc i (upTo fs n))) (row test end (suc i) g fs ss (p .1) n (leb-true g n e) h)))
+    (λ e.
+    subst (λ (j : ℕ). At test n (i + j) (getD (s ∷ ss) j 0)) (sym (upTo-no g fs n (leb-false g n e)))
+    (record { first = f; next = g; from = l; below = leb-false g n e; passes = subst (λ (j : ℕ). test j f g s ≡ true) (sym (add-zero i)) (p .0) }))

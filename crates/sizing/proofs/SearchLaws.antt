@@ -1,6 +1,6 @@
 -- Laws of `upTo`, the place of a number in a rising table. Assumes nothing.
-use mathlib.Core.Path.{_≡_, refl, ap}
-use mathlib.Core.Bool.{Bool, true, false, cond, and-eq-true-iff}
+use mathlib.Core.Path.{_≡_, ap}
+use mathlib.Core.Bool.{Bool, true, cond, and-eq-true-iff}
 use mathlib.Core.List.{List, [], _∷_}
 use Prim.Native.Nat.{ℕ, zero, suc, _≤_, _<_}
 use native.Mathlib.Nat.{not-suc-le-zero, le-of-suc-le-suc}
@@ -8,6 +8,7 @@ use native.Mathlib.Omega.{arith}
 use lib.Dec.{leb, ltb}
 use lib.ListN.{length, getD}
 use borrow.Author.Tests.{leb-true, leb-false, le-leb, lt-leb, ltb-true}
+use Rattle.laws.proofs.Cases.{by-test}
 use Rattle.sizing.specs.Sizing.{upTo, risesFrom, risesStrictly}
 
 -- the table's first number is at most n, or greater
@@ -22,21 +23,16 @@ upTo-no x xs n h = ap (λ (b : Bool). cond b (suc (upTo xs n)) zero) (lt-leb x n
 pub upTo-length : (xs : List ℕ) (n : ℕ) → upTo xs n ≤ length xs
 unfolding upTo
 upTo-length [] n = omega arith
-upTo-length (x ∷ xs) n = by-test (leb x n) (upTo-length xs n)
-  where
-    by-test : (b : Bool) → upTo xs n ≤ length xs → cond b (suc (upTo xs n)) zero ≤ suc (length xs)
-    by-test true h = omega arith
-    by-test false h = omega arith
+upTo-length (x ∷ xs) n = by-test (leb x n) (λ e. rw e (omega (arith, upTo-length xs n))) (λ e. rw e (omega arith))
 
 -- a number of the table that is greater than n ends the front
 pub upTo-back : (xs : List ℕ) (n i : ℕ) → i < length xs → n < getD xs i 0 → upTo xs n ≤ i
 upTo-back [] n i l h = absurd (not-suc-le-zero l)
 upTo-back (x ∷ xs) n zero l h = omega (arith, upTo-no x xs n h)
-upTo-back (x ∷ xs) n (suc i) l h = by-test (leb x n) refl (upTo-back xs n i (le-of-suc-le-suc l) h)
-  where
-    by-test : (b : Bool) → leb x n ≡ b → upTo xs n ≤ i → upTo (x ∷ xs) n ≤ suc i
-    by-test true e k = omega (arith, upTo-yes x xs n (leb-true x n e))
-    by-test false e k = omega (arith, upTo-no x xs n (leb-false x n e))
+upTo-back (x ∷ xs) n (suc i) l h =
+    by-test (leb x n)
+    (λ e. omega (arith, upTo-yes x xs n (leb-true x n e), upTo-back xs n i (le-of-suc-le-suc l) h))
+    (λ e. omega (arith, upTo-no x xs n (leb-false x n e)))
 
 -- a rising table: its next number is greater, and the rest rises too
 rises-next : (x y : ℕ) (ys : List ℕ) → risesFrom x (y ∷ ys) ≡ true → (x < y) × (risesFrom y ys ≡ true)

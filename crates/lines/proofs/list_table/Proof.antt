@@ -5,7 +5,7 @@ use Rattle.lines.proofs.list_table.Statement.{statement}
 use Rattle.lines.proofs.list_table.Tie as tie
 
 count-shown-requires : tie.Need-count-shown-requires
-count-shown-requires c κs = (c .before .before .pre .0, ends-lines _ _ (c .before .before .pre .1))
+count-shown-requires c κs = (c .before .before .pre .0, ends-lines _ _ _ (c .before .before .pre .1))
 
 put-table-requires : tie.Need-put-table-requires
 put-table-requires c κs = (c .before .before .before .before .pre .0, c .before .count-shown .ensures, c .before .before .before .before .pre .1)

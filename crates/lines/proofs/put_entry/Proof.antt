@@ -1,9 +1,8 @@
 -- `put_entry` writes the line of an entry that shows a record, and nothing of any other. Assumes nothing.
 use mathlib.Core.Path.{sym, _∙_}
 use Rattle.records.specs.Places.{entryAt}
-use Rattle.records.proofs.ModelLaws.{found-whole}
+use Rattle.records.proofs.ModelLaws.{found-none, found-whole}
 use Rattle.lines.specs.Shown.{newestTombstone, shown}
-use Rattle.lines.proofs.ShownLaws.{found-none}
 use Rattle.lines.proofs.LinesLaws.{line-ends, lined-some, lined-none}
 use borrow.Author.Needs.{needs}
 use Rattle.lines.proofs.put_entry.Statement.{statement}

@@ -1,9 +1,9 @@
 -- Hash h joins the cells, or leaves them. Assumes nothing.
-use Prim.Native.Nat.{_-_}
+use Prim.Native.Nat.{_-_, _<_}
 use native.Mathlib.Omega.{arith}
 use borrow.Author.Needs.{needs}
 use lib.Bits.{bitXor}
-use lib.ListN.{length}
+use lib.ListN.{length, getD}
 use Rattle.peel.specs.Inner.Table.{plus}
 use Rattle.peel.proofs.TableLaws.{Changing, changing-start, changing-in, changing-turn, changing-end}
 use Rattle.peel.proofs.change.Statement.{statement}
@@ -18,52 +18,17 @@ abbrev μ-loop : tie.MeasureT-loop
 loop-holds : tie.Need-loop-holds Inv-loop μ-loop
 loop-holds c = (changing-start _ _ _, changing-start _ _ _)
 
-mul-wrapping-add-u32 : tie.Need-mul-wrapping-add-u32 Inv-loop μ-loop
-mul-wrapping-add-u32 c =
+-- the cell at hand lies in both tables
+narrow-in : (c : tie.After-shared-slice-known2 Inv-loop μ-loop) → getD (c .before .before .before .before .before .before .args .cells .now) (c .before .before .loop .i) 0 < length (c .before .before .loop .narrow)
+narrow-in c =
     let l = c .before .before .loop in
     let g = c .before .before .before .before .before .before in
-    omega (arith, changing-in _ (g .args .cells .now) _ (l .i) (l .narrow) (omega arith) (g .pre .0) (l .inv .0))
-
-slice-read-wrapping-add-u32 : tie.Need-slice-read-wrapping-add-u32 Inv-loop μ-loop
-slice-read-wrapping-add-u32 c =
-    let l = c .before .before .before .loop in
-    let g = c .before .before .before .before .before .before .before in
     changing-in _ (g .args .cells .now) _ (l .i) (l .narrow) (omega arith) (g .pre .0) (l .inv .0)
 
-mul-narrow : tie.Need-mul-narrow Inv-loop μ-loop
-mul-narrow c =
-    let l = c .before .before .before .before .loop in
-    let g = c .before .before .before .before .before .before .before .before in
-    omega (arith, changing-in _ (g .args .cells .now) _ (l .i) (l .narrow) (omega arith) (g .pre .0) (l .inv .0))
-
-slice-write-narrow : tie.Need-slice-write-narrow Inv-loop μ-loop
-slice-write-narrow c =
-    let l = c .before .before .before .before .loop in
-    let g = c .before .before .before .before .before .before .before .before in
-    changing-in _ (g .args .cells .now) _ (l .i) (l .narrow) (omega arith) (g .pre .0) (l .inv .0)
-
-mul-wide : tie.Need-mul-wide Inv-loop μ-loop
-mul-wide c =
-    let l = c .before .before .before .before .loop in
-    let g = c .before .before .before .before .before .before .before .before in
-    omega (arith, changing-in _ (g .args .cells .now) _ (l .i) (l .wide) (omega arith) (g .pre .1) (l .inv .1))
-
-slice-read-wide : tie.Need-slice-read-wide Inv-loop μ-loop
-slice-read-wide c =
-    let l = c .before .before .before .before .before .loop in
-    let g = c .before .before .before .before .before .before .before .before .before in
-    changing-in _ (g .args .cells .now) _ (l .i) (l .wide) (omega arith) (g .pre .1) (l .inv .1)
-
-mul-wide-2 : tie.Need-mul-wide-2 Inv-loop μ-loop
-mul-wide-2 c =
-    let l = c .before .before .before .before .before .loop in
-    let g = c .before .before .before .before .before .before .before .before .before in
-    omega (arith, changing-in _ (g .args .cells .now) _ (l .i) (l .wide) (omega arith) (g .pre .1) (l .inv .1))
-
-slice-write-wide : tie.Need-slice-write-wide Inv-loop μ-loop
-slice-write-wide c =
-    let l = c .before .before .before .before .before .loop in
-    let g = c .before .before .before .before .before .before .before .before .before in
+wide-in : (c : tie.After-shared-slice-known2 Inv-loop μ-loop) → getD (c .before .before .before .before .before .before .args .cells .now) (c .before .before .loop .i) 0 < length (c .before .before .loop .wide)
+wide-in c =
+    let l = c .before .before .loop in
+    let g = c .before .before .before .before .before .before in
     changing-in _ (g .args .cells .now) _ (l .i) (l .wide) (omega arith) (g .pre .1) (l .inv .1)
 
 loop-again : tie.Need-loop-again Inv-loop μ-loop
@@ -89,15 +54,15 @@ change-spec =
     loop-holds
     (λ c. search needs)
     (λ c. search needs)
-    mul-wrapping-add-u32
-    slice-read-wrapping-add-u32
+    (λ c. omega (arith, narrow-in c))
+    (λ c. narrow-in (c .before))
     (λ c κs. search needs)
-    mul-narrow
-    slice-write-narrow
-    mul-wide
-    slice-read-wide
-    mul-wide-2
-    slice-write-wide
+    (λ c. omega (arith, narrow-in (c .before .before)))
+    (λ c. narrow-in (c .before .before))
+    (λ c. omega (arith, wide-in (c .before .before)))
+    (λ c. wide-in (c .before .before .before))
+    (λ c. omega (arith, wide-in (c .before .before .before)))
+    (λ c. wide-in (c .before .before .before))
     (λ c. search needs)
     (λ c. search needs)
     loop-again

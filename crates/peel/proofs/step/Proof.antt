@@ -51,57 +51,9 @@ returns c =
     let k = ready-empty _ _ hs s _ _ _ (rw (c .if1 .taken) at R) in
     rw k R
 
-add-e : tie.Need-add-e
-add-e c = omega (arith, queue-in (c .before .before .before) (c .if1 .left))
-
-mul-e : tie.Need-mul-e
-mul-e c = omega (arith, queue-in (c .before .before .before) (c .if1 .left))
-
-slice-read-e : tie.Need-slice-read-e
-slice-read-e c = queue-in (c .before .before .before .before) (c .before .if1 .left)
-
-cast-p : tie.Need-cast-p
-cast-p c = omega (arith, cell-in (c .before .before .before .before) (c .before .if1 .left) .0)
-
-mul-if2 : tie.Need-mul-if2
-mul-if2 c = omega (arith, cell-in (c .before .before .before .before) (c .before .if1 .left) .0)
-
-slice-read-if2 : tie.Need-slice-read-if2
-slice-read-if2 c = cell-in (c .before .before .before .before .before) (c .before .before .if1 .left) .0
-
 returns-2 : tie.Need-returns-2
 returns-2 c =
     λ hs s R. ready-skip _ _ hs s _ _ _ _ (ready-suc (c .before .before .before .before .before .before .args .at .top) (c .before .before .before .if1 .left) R) (c .if2 .taken)
-
-mul-h : tie.Need-mul-h
-mul-h c = omega (arith, cell-in (c .before .before .before .before .before .before) (c .before .before .before .if1 .left) .1)
-
-slice-read-h : tie.Need-slice-read-h
-slice-read-h c = cell-in (c .before .before .before .before .before .before .before) (c .before .before .before .before .if1 .left) .1
-
-add-wide : tie.Need-add-wide
-add-wide c = omega (arith, stack-in (c .before .before .before .before .before .before .before) (c .before .before .before .before .if1 .left) (c .before .if2 .left) .0)
-
-mul-wide : tie.Need-mul-wide
-mul-wide c = omega (arith, stack-in (c .before .before .before .before .before .before .before) (c .before .before .before .before .if1 .left) (c .before .if2 .left) .0)
-
-slice-write-wide : tie.Need-slice-write-wide
-slice-write-wide c = stack-in (c .before .before .before .before .before .before .before) (c .before .before .before .before .if1 .left) (c .before .if2 .left) .0
-
-add-narrow : tie.Need-add-narrow
-add-narrow c = omega (arith, stack-in (c .before .before .before .before .before .before .before) (c .before .before .before .before .if1 .left) (c .before .if2 .left) .1)
-
-add-narrow-2 : tie.Need-add-narrow-2
-add-narrow-2 c = omega (arith, stack-in (c .before .before .before .before .before .before .before) (c .before .before .before .before .if1 .left) (c .before .if2 .left) .1)
-
-mul-narrow : tie.Need-mul-narrow
-mul-narrow c = omega (arith, stack-in (c .before .before .before .before .before .before .before) (c .before .before .before .before .if1 .left) (c .before .if2 .left) .1)
-
-slice-write-narrow : tie.Need-slice-write-narrow
-slice-write-narrow c = stack-in (c .before .before .before .before .before .before .before) (c .before .before .before .before .if1 .left) (c .before .if2 .left) .1
-
-positions-requires : tie.Need-positions-requires
-positions-requires c κs = c .before .before .before .before .before .before .before .pre .0 .usable
 
 change-requires : tie.Need-change-requires
 change-requires c κs =
@@ -159,23 +111,23 @@ step-spec =
     (tie.spec
     returns
     (λ c. search needs)
-    add-e
-    mul-e
-    slice-read-e
-    cast-p
-    mul-if2
-    slice-read-if2
+    (λ c. omega (arith, queue-in (c .before .before .before) (c .if1 .left)))
+    (λ c. omega (arith, queue-in (c .before .before .before) (c .if1 .left)))
+    (λ c. queue-in (c .before .before .before .before) (c .before .if1 .left))
+    (λ c. omega (arith, cell-in (c .before .before .before .before) (c .before .if1 .left) .0))
+    (λ c. omega (arith, cell-in (c .before .before .before .before) (c .before .if1 .left) .0))
+    (λ c. cell-in (c .before .before .before .before .before) (c .before .before .if1 .left) .0)
     returns-2
-    mul-h
-    slice-read-h
-    add-wide
-    mul-wide
-    slice-write-wide
-    add-narrow
-    add-narrow-2
-    mul-narrow
-    slice-write-narrow
-    positions-requires
+    (λ c. omega (arith, cell-in (c .before .before .before .before .before .before) (c .before .before .before .if1 .left) .1))
+    (λ c. cell-in (c .before .before .before .before .before .before .before) (c .before .before .before .before .if1 .left) .1)
+    (λ c. omega (arith, stack-in (c .before .before .before .before .before .before .before) (c .before .before .before .before .if1 .left) (c .before .if2 .left) .0))
+    (λ c. omega (arith, stack-in (c .before .before .before .before .before .before .before) (c .before .before .before .before .if1 .left) (c .before .if2 .left) .0))
+    (λ c. stack-in (c .before .before .before .before .before .before .before) (c .before .before .before .before .if1 .left) (c .before .if2 .left) .0)
+    (λ c. omega (arith, stack-in (c .before .before .before .before .before .before .before) (c .before .before .before .before .if1 .left) (c .before .if2 .left) .1))
+    (λ c. omega (arith, stack-in (c .before .before .before .before .before .before .before) (c .before .before .before .before .if1 .left) (c .before .if2 .left) .1))
+    (λ c. omega (arith, stack-in (c .before .before .before .before .before .before .before) (c .before .before .before .before .if1 .left) (c .before .if2 .left) .1))
+    (λ c. stack-in (c .before .before .before .before .before .before .before) (c .before .before .before .before .if1 .left) (c .before .if2 .left) .1)
+    (λ c κs. c .before .before .before .before .before .before .before .pre .0 .usable)
     (λ c. search needs)
     change-requires
     (λ c. search needs)
