@@ -23,9 +23,9 @@ use Rattle.records.proofs.StandsLaws.{stands-on, entries-on}
 use Rattle.point.specs.Table.{tableOf}
 use Rattle.point.specs.Inner.Stands.{TableStands}
 use Rattle.lines.specs.declared.Lines.{Lines}
-use Rattle.lines.specs.Shown.{Rule, shown, Shows, showsFor, shownBy, shownOf}
+use Rattle.lines.specs.Shown.{Rule, shown, Shows, showsFor, shownOf}
 use Rattle.lines.specs.Listing.{lineOf, textOfShown}
-use Rattle.lines.specs.Inner.Steps.{Lined}
+use Rattle.lines.specs.Inner.Steps.{shownBy, Lined}
 use Rattle.lines.proofs.ShownLaws.{shows-text, shows-count, shown-few}
 
 module _ (rule : Rule) (limit : ℕ) (body : List ℕ) where

@@ -41,10 +41,6 @@ abbrev pub showsFor : List ℕ → Option Record → List Shows → List Shows
 showsFor key none rest = rest
 showsFor key (some r) rest = record { key = key; version = r } ∷ rest
 
--- what one entry shows: its key with its record, or nothing
-abbrev pub shownBy : Rule → ℕ → Entry → List Shows
-shownBy rule limit e = showsFor (e .key) (shown rule limit e) []
-
 -- the keys that a table shows, in key order, each with its record
 unfoldable pub shownOf : Rule → ℕ → List Entry → List Shows
 shownOf rule limit [] = []

@@ -16,9 +16,9 @@ ghost use Rattle.records.specs.Inner.Stands.{EntryStands};
 ghost use Rattle.point.specs.Table.{tableOf};
 ghost use Rattle.point.specs.Inner.Stands.{TableStands};
 ghost use lib.ListN.{length};
-ghost use Rattle.lines.specs.Shown.{newestTombstone, shown, shownBy, shownOf};
+ghost use Rattle.lines.specs.Shown.{newestTombstone, shown, shownOf};
 ghost use Rattle.lines.specs.Listing.{kindWord, recordText, lineOf, textOfShown, linesOf, listingHeader, tableText, refusedText, listingRefusal, Listing};
-ghost use Rattle.lines.specs.Inner.Steps.{tombstoneFound, Lined, Lists};
+ghost use Rattle.lines.specs.Inner.Steps.{tombstoneFound, shownBy, Lined, Lists};
 
 // What a listing answers: the text's length, or the refusal of a buffer that is too short for it.
 pub enum Listed {

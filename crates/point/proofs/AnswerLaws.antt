@@ -2,7 +2,7 @@
 -- values, else 1; and what is not located or not opened is the answer. Assumes nothing.
 use Prim.Native.Nat.{ℕ, zero, suc, _+_, _<_, _≤_}
 use native.Mathlib.Omega.{arith}
-use mathlib.Core.Path.{_≡_, refl, ap, _∙_}
+use mathlib.Core.Path.{_≡_, refl, sym, ap, _∙_}
 use mathlib.Core.List.{List, [], _∷_}
 use mathlib.Core.Bool.{Bool, true, false, cond}
 use mathlib.Core.Logic.{_⊎_, inl, inr}
@@ -12,6 +12,7 @@ use borrow.Author.Tests.{ltb-true, ltb-false, eqb-true, eqb-false, lt-ltb, le-lt
 use Rattle.words.specs.Part.{sameAs}
 use Rattle.mixing.specs.Mixing.{hashOf, fingerprintOf}
 use Rattle.layout.specs.Layout.{seedIn, keysIn, arenaIn, headerRefusal, pilotOf, directPast, slotPlace, recordOffset, fingerprintLow}
+use Rattle.records.specs.declared.cursor.HeadRead.the-variants as head
 use Rattle.records.specs.declared.Limit.{Limit}
 use Rattle.records.specs.declared.Record.{Record}
 use Rattle.records.specs.declared.VersionRead.the-variants.{At, Unread}
@@ -20,8 +21,9 @@ use Rattle.records.specs.declared.Within.the-variants as within
 use Rattle.records.specs.Model.{within as holds, kindByte}
 use Rattle.records.specs.Places.{keyAt, firstVersion, versionCount, sequenceAt, kindAt, recordAt}
 use Rattle.records.specs.Rules.{badKind}
-use Rattle.records.specs.Cursor.{versionAt}
+use Rattle.records.specs.Cursor.{headOf, headAt, versionAt}
 use Rattle.records.specs.Within.{withinOr, firstWithin}
+use Rattle.records.proofs.CursorLaws.{head-short, head-cut}
 use Rattle.point.specs.declared.Versions.{Versions}
 use Rattle.point.specs.declared.Located.{Located}
 use Rattle.point.specs.declared.Located.the-variants as located
@@ -29,7 +31,7 @@ use Rattle.point.specs.declared.Opened.{Opened}
 use Rattle.point.specs.declared.Opened.the-variants as opened
 use Rattle.point.specs.declared.Answer.{Answer}
 use Rattle.point.specs.declared.Answer.the-variants.{Found, Nothing, Refused}
-use Rattle.point.specs.Get.{locateHash, locateOf, openRecordOf, openAt, openOf, firstFor, answerOf, answerFrom, getOf, locatedNumber, locatedValues, openedNumber, openedValues, answerNumber, answerValues}
+use Rattle.point.specs.Get.{locateHash, locateOf, openHead, openRecordOf, openAt, openOf, firstFor, answerOf, answerFrom, getOf, locatedNumber, locatedValues, openedNumber, openedValues, answerNumber, answerValues}
 use Rattle.point.specs.Table.{keySlot}
 use Rattle.point.specs.Causes.{Leads, RecordOpens, Opens, LocatingDamaged, RecordDamaged, OpeningDamaged, VersionDamaged, DamageMet}
 use Rattle.point.specs.Causes.LocatingDamaged.{header-damaged, pilot-damaged, start-outside}
@@ -37,32 +39,38 @@ use Rattle.point.specs.Causes.RecordDamaged.{header-outside, key-outside
 use Rattle.point.specs.Causes.OpeningDamaged.{locating-damaged, record-damaged}
 use Rattle.point.specs.Causes.VersionDamaged.{outside, bad-kind, later}
 use Rattle.point.specs.Causes.DamageMet.{opening-damaged, version-damaged, value-outside}
-use Rattle.point.proofs.GetLaws.{locate-refused, record-same, answer-past}
+use Rattle.point.proofs.GetLaws.{locate-refused, record-head, record-whole, answer-past}
 
 -- the versions of the record at a place
 abbrev here : List ℕ → ℕ → Versions
 here body p = record { first = firstVersion body p; count = versionCount body p }
 
--- how locating, opening a record or a key, and getting end
-data Locates (body key : List ℕ) : Located → Type 0 where
-  located-at : (p : ℕ) → Leads body key p → p ≤ length body → Locates body key (located.At p)
-  located-none : Locates body key located.Nothing
-  located-damaged : LocatingDamaged body key → Locates body key located.Damaged
+-- how a call ends: with a value (0), with nothing (1), or by damage (14)
+data Outcome {A : Type 0} (number : A → ℕ) (Value Nought : A → Type 0) (Damage : Type 0) (a : A) : Type 0 where
+  valued : number a ≡ 0 → Value a → Outcome number Value Nought Damage a
+  empty : number a ≡ 1 → Nought a → Outcome number Value Nought Damage a
+  damaged : number a ≡ 14 → Damage → Outcome number Value Nought Damage a
 
-data RecordOpensTo (body key : List ℕ) (p : ℕ) : Opened → Type 0 where
-  record-at : RecordOpens body key p → RecordOpensTo body key p (opened.Open (here body p))
-  record-none : RecordOpensTo body key p opened.Nothing
-  record-outside : RecordDamaged body p → RecordOpensTo body key p opened.Damaged
+module _ {A : Type 0} {number : A → ℕ} {Value Nought : A → Type 0} {Damage : Type 0} {a : A} where
+  by-value : Outcome number Value Nought Damage a → number a ≡ 0 → Value a
+  by-value (valued z v) e = v
+  by-value (empty z n) e = absurd (omega arith)
+  by-value (damaged z d) e = absurd (omega arith)
 
-data OpensTo (body key : List ℕ) : Opened → Type 0 where
-  opened-at : (p : ℕ) → Opens body key p → OpensTo body key (opened.Open (here body p))
-  opened-none : OpensTo body key opened.Nothing
-  opened-damaged : OpeningDamaged body key → OpensTo body key opened.Damaged
+  by-nought : Outcome number Value Nought Damage a → number a ≡ 1 → Nought a
+  by-nought (valued z v) e = absurd (omega arith)
+  by-nought (empty z n) e = n
+  by-nought (damaged z d) e = absurd (omega arith)
 
-data GetsTo (body : List ℕ) (size : ℕ) (key : List ℕ) (limit : Limit) : Answer → Type 0 where
-  gets-record : (r : Record) → GetsTo body size key limit (Found r)
-  gets-none : GetsTo body size key limit Nothing
-  gets-damage : DamageMet body size key limit → GetsTo body size key limit (Refused 14)
+  by-damage : Outcome number Value Nought Damage a → number a ≡ 14 → Damage
+  by-damage (valued z v) e = absurd (omega arith)
+  by-damage (empty z n) e = absurd (omega arith)
+  by-damage (damaged z d) e = d
+
+  by-numbers : Outcome number Value Nought Damage a → (number a ≡ 0) ⊎ ((number a ≡ 1) ⊎ (number a ≡ 14))
+  by-numbers (valued z v) = inl z
+  by-numbers (empty z n) = inr (inl z)
+  by-numbers (damaged z d) = inr (inr z)
 
 -- ---- locating
 
@@ -83,17 +91,24 @@ module _ (body key : List ℕ) where
   leading : eqb (headerRefusal body) 0 ≡ true → directPast (keysIn body) (pilotOf body asked) ≡ false → eqb (fingerprintLow body slot) (fingerprintOf asked) ≡ true → Leads body key named
   leading h q f = record { header = eqb-true _ _ h; pilot = q; fingerprint = eqb-true _ _ f; place = refl }
 
-  locates : Locates body key (locateOf body key)
+  -- what locating leads to
+  abbrev Place : Located → Type 0
+  Place l = (p : ℕ) × (Leads body key p × (p ≤ length body) × (locatedValues l ≡ p ∷ []))
+
+  abbrev Locates : Located → Type 0
+  Locates = Outcome locatedNumber Place (λ l. l ≡ located.Nothing) (LocatingDamaged body key)
+
+  locates : Locates (locateOf body key)
   unfolding locateOf locateHash
   locates = go (eqb (headerRefusal body) 0) (directPast (keysIn body) (pilotOf body asked)) (eqb (fingerprintLow body slot) (fingerprintOf asked)) (ltb (length body) named) refl refl refl refl
     where
       go : (a b c d : Bool) → eqb (headerRefusal body) 0 ≡ a → directPast (keysIn body) (pilotOf body asked) ≡ b
-          → eqb (fingerprintLow body slot) (fingerprintOf asked) ≡ c → ltb (length body) named ≡ d → Locates body key (locatedBy a b c d)
-      go false b c d qa qb qc qd = located-damaged (header-damaged (eqb-false _ _ qa))
-      go true true c d qa qb qc qd = located-damaged (pilot-damaged (eqb-true _ _ qa) qb)
-      go true false false d qa qb qc qd = located-none
-      go true false true true qa qb qc qd = located-damaged (start-outside named (leading qa qb qc) (ltb-true _ _ qd))
-      go true false true false qa qb qc qd = located-at named (leading qa qb qc) (ltb-false _ _ qd)
+          → eqb (fingerprintLow body slot) (fingerprintOf asked) ≡ c → ltb (length body) named ≡ d → Locates (locatedBy a b c d)
+      go false b c d qa qb qc qd = damaged refl (header-damaged (eqb-false _ _ qa))
+      go true true c d qa qb qc qd = damaged refl (pilot-damaged (eqb-true _ _ qa) qb)
+      go true false false d qa qb qc qd = empty refl refl
+      go true false true true qa qb qc qd = damaged refl (start-outside named (leading qa qb qc) (ltb-true _ _ qd))
+      go true false true false qa qb qc qd = valued refl (named, (leading qa qb qc, ltb-false _ _ qd, refl))
 
   leads-at : (p : ℕ) → Leads body key p → p ≤ length body → locateOf body key ≡ located.At p
   unfolding locateOf locateHash
@@ -109,111 +124,85 @@ module _ (body key : List ℕ) where
 
   -- THEOREM: locating gives 14 exactly where it meets damage
   pub locate-cause : locatedNumber (locateOf body key) ≡ 14 → LocatingDamaged body key
-  locate-cause = go locates
-    where
-      go : {l : Located} → Locates body key l → locatedNumber l ≡ 14 → LocatingDamaged body key
-      go (located-at p d h) e = absurd (omega arith)
-      go located-none e = absurd (omega arith)
-      go (located-damaged d) e = d
+  locate-cause = by-damage locates
 
   pub cause-locate : LocatingDamaged body key → locatedNumber (locateOf body key) ≡ 14
   cause-locate d = ap locatedNumber (damage-located d)
 
   -- THEOREM: it gives 0, and a place inside the body, exactly where the key's slot leads there
   pub locate-place : locatedNumber (locateOf body key) ≡ 0 → (p : ℕ) × (Leads body key p × (p ≤ length body) × (locatedValues (locateOf body key) ≡ p ∷ []))
-  locate-place = go locates
-    where
-      go : {l : Located} → Locates body key l → locatedNumber l ≡ 0 → (p : ℕ) × (Leads body key p × (p ≤ length body) × (locatedValues l ≡ p ∷ []))
-      go (located-at p d h) e = (p, (d, h, refl))
-      go located-none e = absurd (omega arith)
-      go (located-damaged d) e = absurd (omega arith)
+  locate-place = by-value locates
 
   pub place-locate : (p : ℕ) → Leads body key p → p ≤ length body → (locatedNumber (locateOf body key) ≡ 0) × (locatedValues (locateOf body key) ≡ p ∷ [])
   place-locate p d h = let e = leads-at p d h in (ap locatedNumber e, ap locatedValues e)
 
   -- THEOREM: else 1
   pub locate-numbers : (locatedNumber (locateOf body key) ≡ 0) ⊎ ((locatedNumber (locateOf body key) ≡ 1) ⊎ (locatedNumber (locateOf body key) ≡ 14))
-  locate-numbers = go locates
-    where
-      go : {l : Located} → Locates body key l → (locatedNumber l ≡ 0) ⊎ ((locatedNumber l ≡ 1) ⊎ (locatedNumber l ≡ 14))
-      go (located-at p d h) = inl refl
-      go located-none = inr (inl refl)
-      go (located-damaged d) = inr (inr refl)
+  locate-numbers = by-numbers locates
 
   -- ---- opening the record at a place
 
   module _ (p : ℕ) where
-    record-opens : RecordOpensTo body key p (openRecordOf body p key)
-    unfolding openRecordOf
-    record-opens = go (ltb (length body) (p + 8)) (ltb (length body) (firstVersion body p)) (sameAs (keyAt body p) key) refl refl refl
+    -- what opening it leads to
+    abbrev RecordOpensTo : Opened → Type 0
+    RecordOpensTo =
+        Outcome openedNumber (λ o. RecordOpens body key p × (openedValues o ≡ firstVersion body p ∷ versionCount body p ∷ [])) (λ o. o ≡ opened.Nothing) (RecordDamaged body p)
+
+    record-opens : RecordOpensTo (openRecordOf body p key)
+    unfolding openRecordOf headAt
+    record-opens = go (ltb (length body) (p + 8)) (ltb (length body) (firstVersion body p)) refl refl
       where
-        go : (a b c : Bool) → ltb (length body) (p + 8) ≡ a → ltb (length body) (firstVersion body p) ≡ b → sameAs (keyAt body p) key ≡ c
-            → RecordOpensTo body key p (cond a opened.Damaged (cond b opened.Damaged (cond c (opened.Open (here body p)) opened.Nothing)))
-        go true b c qa qb qc = record-outside (header-outside (ltb-true _ _ qa))
-        go false true c qa qb qc = record-outside (key-outside (ltb-false _ _ qa) (ltb-true _ _ qb))
-        go false false true qa qb qc = record-at (record { whole = ltb-false _ _ qb; same = qc })
-        go false false false qa qb qc = record-none
+        whole : (c : Bool) → sameAs (keyAt body p) key ≡ c → firstVersion body p ≤ length body → RecordOpensTo (cond c (opened.Open (here body p)) opened.Nothing)
+        whole true q h = valued refl (record { whole = h; same = q }, refl)
+        whole false q h = empty refl refl
+
+        go : (a b : Bool) → ltb (length body) (p + 8) ≡ a → ltb (length body) (firstVersion body p) ≡ b
+            → RecordOpensTo (openHead body p key (cond a head.Outside (cond b head.Outside (head.At (headOf body p)))))
+        go true b qa qb = damaged refl (header-outside (ltb-true _ _ qa))
+        go false true qa qb = damaged refl (key-outside (ltb-false _ _ qa) (ltb-true _ _ qb))
+        go false false qa qb = whole (sameAs (keyAt body p) key) refl (ltb-false _ _ qb)
 
     outside-opened : RecordDamaged body p → openRecordOf body p key ≡ opened.Damaged
-    unfolding openRecordOf
-    outside-opened (header-outside h) = rw (lt-ltb (length body) (p + 8) h)
-    outside-opened (key-outside h q) = rw (le-ltb (length body) (p + 8) h, lt-ltb (length body) (firstVersion body p) q)
+    outside-opened (header-outside h) = record-head body key p _ (sym (head-short body p h))
+    outside-opened (key-outside h q) = record-head body key p _ (sym (head-cut body p h q))
 
     -- THEOREM: opening the record at a place gives 14 exactly where its header or its key is outside the body
     pub record-cause : openedNumber (openRecordOf body p key) ≡ 14 → RecordDamaged body p
-    record-cause = go record-opens
-      where
-        go : {o : Opened} → RecordOpensTo body key p o → openedNumber o ≡ 14 → RecordDamaged body p
-        go (record-at d) e = absurd (omega arith)
-        go record-none e = absurd (omega arith)
-        go (record-outside d) e = d
+    record-cause = by-damage record-opens
 
     pub cause-record : RecordDamaged body p → openedNumber (openRecordOf body p key) ≡ 14
     cause-record d = ap openedNumber (outside-opened d)
 
     -- THEOREM: it gives 0, where the first version stands and how many there are, exactly where the record there is the key's
     pub record-versions : openedNumber (openRecordOf body p key) ≡ 0 → RecordOpens body key p × (openedValues (openRecordOf body p key) ≡ firstVersion body p ∷ versionCount body p ∷ [])
-    record-versions = go record-opens
-      where
-        go : {o : Opened} → RecordOpensTo body key p o → openedNumber o ≡ 0 → RecordOpens body key p × (openedValues o ≡ firstVersion body p ∷ versionCount body p ∷ [])
-        go (record-at d) e = (d, refl)
-        go record-none e = absurd (omega arith)
-        go (record-outside d) e = absurd (omega arith)
+    record-versions = by-value record-opens
 
     pub versions-record : RecordOpens body key p → (openedNumber (openRecordOf body p key) ≡ 0) × (openedValues (openRecordOf body p key) ≡ firstVersion body p ∷ versionCount body p ∷ [])
-    versions-record o = let e = record-same body key p (o .whole) (o .same) in (ap openedNumber e, ap openedValues e)
+    versions-record o = let e = record-whole body key p (o .whole) true (o .same) in (ap openedNumber e, ap openedValues e)
 
     -- THEOREM: else 1
     pub record-numbers : (openedNumber (openRecordOf body p key) ≡ 0) ⊎ ((openedNumber (openRecordOf body p key) ≡ 1) ⊎ (openedNumber (openRecordOf body p key) ≡ 14))
-    record-numbers = go record-opens
-      where
-        go : {o : Opened} → RecordOpensTo body key p o → (openedNumber o ≡ 0) ⊎ ((openedNumber o ≡ 1) ⊎ (openedNumber o ≡ 14))
-        go (record-at d) = inl refl
-        go record-none = inr (inl refl)
-        go (record-outside d) = inr (inr refl)
+    record-numbers = by-numbers record-opens
 
   -- ---- opening a key
 
-  led-opens : (p : ℕ) → Leads body key p → OpensTo body key (openRecordOf body p key)
-  led-opens p l = go (record-opens p)
-    where
-      go : {o : Opened} → RecordOpensTo body key p o → OpensTo body key o
-      go (record-at d) = opened-at p (record { leads = l; opens = d })
-      go record-none = opened-none
-      go (record-outside d) = opened-damaged (record-damaged p l d)
-
-  opens : OpensTo body key (openOf body key)
+  -- THEOREM: what is not located is opening's answer
+  pub locate-open : (n : ℕ) → locatedNumber (locateOf body key) ≡ suc n → openedNumber (openOf body key) ≡ suc n
   unfolding openOf
-  opens = go locates
+  locate-open n = go (locateOf body key)
     where
-      go : {l : Located} → Locates body key l → OpensTo body key (openAt body key l)
-      go (located-at p d h) = led-opens p d
-      go located-none = opened-none
-      go (located-damaged d) = opened-damaged (locating-damaged d)
+      go : (l : Located) → locatedNumber l ≡ suc n → openedNumber (openAt body key l) ≡ suc n
+      go (located.At p) e = absurd (omega arith)
+      go located.Nothing e = e
+      go located.Damaged e = e
 
   open-at : (p : ℕ) → locateOf body key ≡ located.At p → openOf body key ≡ openRecordOf body p key
   unfolding openOf
   open-at p e = rw e
+
+  unlocated-nothing : locateOf body key ≡ located.Nothing → openOf body key ≡ opened.Nothing
+  unfolding openOf
+  unlocated-nothing e = rw e
 
   unlocated : LocatingDamaged body key → openOf body key ≡ opened.Damaged
   unfolding openOf
@@ -233,50 +222,43 @@ module _ (body key : List ℕ) where
   opens-at : (p : ℕ) → Opens body key p → openOf body key ≡ opened.Open (here body p)
   opens-at p o =
       let w = o .opens .whole in
-      open-at p (leads-at p (o .leads) (omega arith)) ∙ record-same body key p w (o .opens .same)
+      open-at p (leads-at p (o .leads) (omega arith)) ∙ record-whole body key p w true (o .opens .same)
+
+  -- what opening leads to
+  abbrev OpensTo : Opened → Type 0
+  OpensTo =
+      Outcome openedNumber (λ o. (p : ℕ) × (Opens body key p × (openedValues o ≡ firstVersion body p ∷ versionCount body p ∷ []))) (λ o. o ≡ opened.Nothing) (OpeningDamaged body key)
+
+  opens : OpensTo (openOf body key)
+  opens = go locates
+    where
+      led : (p : ℕ) → Leads body key p → {o : Opened} → RecordOpensTo p o → OpensTo o
+      led p l (valued z d) = valued z (p, (record { leads = l; opens = d .0 }, d .1))
+      led p l (empty z n) = empty z n
+      led p l (damaged z d) = damaged z (record-damaged p l d)
+
+      go : Locates (locateOf body key) → OpensTo (openOf body key)
+      go (valued z (p, (l, h, v))) = rw (open-at p (leads-at p l h)) (led p l (record-opens p))
+      go (empty z n) = empty (locate-open 0 z) (unlocated-nothing n)
+      go (damaged z d) = damaged (locate-open 13 z) (locating-damaged d)
 
   -- THEOREM: opening gives 14 exactly where it meets damage
   pub open-cause : openedNumber (openOf body key) ≡ 14 → OpeningDamaged body key
-  open-cause = go opens
-    where
-      go : {o : Opened} → OpensTo body key o → openedNumber o ≡ 14 → OpeningDamaged body key
-      go (opened-at p d) e = absurd (omega arith)
-      go opened-none e = absurd (omega arith)
-      go (opened-damaged d) e = d
+  open-cause = by-damage opens
 
   pub cause-open : OpeningDamaged body key → openedNumber (openOf body key) ≡ 14
   cause-open d = ap openedNumber (damage-opened d)
 
   -- THEOREM: it gives 0, where the first version stands and how many there are, exactly where the key's record opens
   pub open-record : openedNumber (openOf body key) ≡ 0 → (p : ℕ) × (Opens body key p × (openedValues (openOf body key) ≡ firstVersion body p ∷ versionCount body p ∷ []))
-  open-record = go opens
-    where
-      go : {o : Opened} → OpensTo body key o → openedNumber o ≡ 0 → (p : ℕ) × (Opens body key p × (openedValues o ≡ firstVersion body p ∷ versionCount body p ∷ []))
-      go (opened-at p d) e = (p, (d, refl))
-      go opened-none e = absurd (omega arith)
-      go (opened-damaged d) e = absurd (omega arith)
+  open-record = by-value opens
 
   pub record-open : (p : ℕ) → Opens body key p → (openedNumber (openOf body key) ≡ 0) × (openedValues (openOf body key) ≡ firstVersion body p ∷ versionCount body p ∷ [])
   record-open p o = let e = opens-at p o in (ap openedNumber e, ap openedValues e)
 
   -- THEOREM: else 1
   pub open-numbers : (openedNumber (openOf body key) ≡ 0) ⊎ ((openedNumber (openOf body key) ≡ 1) ⊎ (openedNumber (openOf body key) ≡ 14))
-  open-numbers = go opens
-    where
-      go : {o : Opened} → OpensTo body key o → (openedNumber o ≡ 0) ⊎ ((openedNumber o ≡ 1) ⊎ (openedNumber o ≡ 14))
-      go (opened-at p d) = inl refl
-      go opened-none = inr (inl refl)
-      go (opened-damaged d) = inr (inr refl)
-
-  -- THEOREM: what is not located is opening's answer
-  pub locate-open : (n : ℕ) → locatedNumber (locateOf body key) ≡ suc n → openedNumber (openOf body key) ≡ suc n
-  unfolding openOf
-  locate-open n = go (locateOf body key)
-    where
-      go : (l : Located) → locatedNumber l ≡ suc n → openedNumber (openAt body key l) ≡ suc n
-      go (located.At p) e = absurd (omega arith)
-      go located.Nothing e = e
-      go located.Damaged e = e
+  open-numbers = by-numbers opens
 
 -- what is not located, or not opened, has no values
 pub unlocated-values : (l : Located) → 0 < locatedNumber l → locatedValues l ≡ []
@@ -317,25 +299,29 @@ damaged-first body limit p (suc k) (bad-kind h q) = rw (le-ltb (length body) (p 
 damaged-first body limit p (suc k) (later h q s v) = rw (le-ltb (length body) (p + 21) h, q, s) (damaged-first body limit (p + 21) k v)
 
 module _ (body : List ℕ) (size : ℕ) (key : List ℕ) (limit : Limit) where
-  open-damaged : {o : Opened} → OpensTo body key o → firstFor body o limit ≡ within.Damaged → DamageMet body size key limit
+  open-damaged : OpensTo body key (openOf body key) → firstFor body (openOf body key) limit ≡ within.Damaged → DamageMet body size key limit
   unfolding firstFor
-  open-damaged (opened-at p d) f = version-damaged p d (first-damaged body limit (firstVersion body p) (versionCount body p) f)
-  open-damaged opened-none f = absurd (let z : _≡_ {A = ℕ} 0 1 = cc in omega arith)
-  open-damaged (opened-damaged d) f = opening-damaged d
+  open-damaged (valued z (p, (d, v))) f =
+      version-damaged p d (first-damaged body limit (firstVersion body p) (versionCount body p) (sym (ap (λ (o : Opened). firstFor body o limit) (opens-at body key p d)) ∙ f))
+  open-damaged (empty z n) f = absurd (let q = sym (ap (λ (o : Opened). firstFor body o limit) n) ∙ f in let y : _≡_ {A = ℕ} 0 1 = cc in omega arith)
+  open-damaged (damaged z d) f = opening-damaged d
 
-  gets-by : (w : Within) → firstFor body (openOf body key) limit ≡ w → GetsTo body size key limit (answerOf size w)
-  unfolding answerOf
-  gets-by (within.Found r) e = go (ltb size (r .offset + r .length)) refl
+  -- what getting leads to
+  abbrev GetsTo : Answer → Type 0
+  GetsTo = Outcome answerNumber (λ a. (r : Record) × (a ≡ Found r)) (λ a. a ≡ Nothing) (DamageMet body size key limit)
+
+  gets : GetsTo (getOf body size key limit)
+  unfolding getOf answerOf
+  gets = go (firstFor body (openOf body key) limit) refl
     where
-      go : (b : Bool) → ltb size (r .offset + r .length) ≡ b → GetsTo body size key limit (cond b (Refused 14) (Found r))
-      go true q = gets-damage (value-outside r e (ltb-true _ _ q))
-      go false q = gets-record r
-  gets-by within.Nothing e = gets-none
-  gets-by within.Damaged e = gets-damage (open-damaged (opens body key) e)
+      inside : (r : Record) → firstFor body (openOf body key) limit ≡ within.Found r → (b : Bool) → ltb size (r .offset + r .length) ≡ b → GetsTo (cond b (Refused 14) (Found r))
+      inside r e true q = damaged refl (value-outside r e (ltb-true _ _ q))
+      inside r e false q = valued refl (r, refl)
 
-  gets : GetsTo body size key limit (getOf body size key limit)
-  unfolding getOf
-  gets = gets-by (firstFor body (openOf body key) limit) refl
+      go : (w : Within) → firstFor body (openOf body key) limit ≡ w → GetsTo (answerOf size w)
+      go (within.Found r) e = inside r e (ltb size (r .offset + r .length)) refl
+      go within.Nothing e = empty refl refl
+      go within.Damaged e = damaged refl (open-damaged (opens body key) e)
 
   unopened : OpeningDamaged body key → getOf body size key limit ≡ Refused 14
   unfolding getOf firstFor answerOf
@@ -355,24 +341,14 @@ module _ (body : List ℕ) (size : ℕ) (key : List ℕ) (limit : Limit) where
 
   -- THEOREM: get gives 14 exactly where it meets damage
   pub get-cause : answerNumber (getOf body size key limit) ≡ 14 → DamageMet body size key limit
-  get-cause = go gets
-    where
-      go : {a : Answer} → GetsTo body size key limit a → answerNumber a ≡ 14 → DamageMet body size key limit
-      go (gets-record r) e = absurd (omega arith)
-      go gets-none e = absurd (omega arith)
-      go (gets-damage d) e = d
+  get-cause = by-damage gets
 
   pub cause-get : DamageMet body size key limit → answerNumber (getOf body size key limit) ≡ 14
   cause-get d = ap answerNumber (damage-gets d)
 
   -- THEOREM: it gives 0, and kind, sequence, offset and length, exactly for a record found
   pub get-record : answerNumber (getOf body size key limit) ≡ 0 → (r : Record) × (getOf body size key limit ≡ Found r)
-  get-record = go gets
-    where
-      go : {a : Answer} → GetsTo body size key limit a → answerNumber a ≡ 0 → (r : Record) × (a ≡ Found r)
-      go (gets-record r) e = (r, refl)
-      go gets-none e = absurd (omega arith)
-      go (gets-damage d) e = absurd (omega arith)
+  get-record = by-value gets
 
   pub record-get : (r : Record) → getOf body size key limit ≡ Found r
       → (answerNumber (getOf body size key limit) ≡ 0) × (answerValues (getOf body size key limit) ≡ kindByte (r .kind) ∷ r .sequence ∷ r .offset ∷ r .length ∷ [])
@@ -380,24 +356,14 @@ module _ (body : List ℕ) (size : ℕ) (key : List ℕ) (limit : Limit) where
 
   -- THEOREM: it gives 1 exactly for nothing
   pub get-nothing : answerNumber (getOf body size key limit) ≡ 1 → getOf body size key limit ≡ Nothing
-  get-nothing = go gets
-    where
-      go : {a : Answer} → GetsTo body size key limit a → answerNumber a ≡ 1 → a ≡ Nothing
-      go (gets-record r) e = absurd (omega arith)
-      go gets-none e = refl
-      go (gets-damage d) e = absurd (omega arith)
+  get-nothing = by-nought gets
 
   pub nothing-get : getOf body size key limit ≡ Nothing → answerNumber (getOf body size key limit) ≡ 1
   nothing-get e = ap answerNumber e
 
   -- THEOREM: and no other number
   pub get-numbers : (answerNumber (getOf body size key limit) ≡ 0) ⊎ ((answerNumber (getOf body size key limit) ≡ 1) ⊎ (answerNumber (getOf body size key limit) ≡ 14))
-  get-numbers = go gets
-    where
-      go : {a : Answer} → GetsTo body size key limit a → (answerNumber a ≡ 0) ⊎ ((answerNumber a ≡ 1) ⊎ (answerNumber a ≡ 14))
-      go (gets-record r) = inl refl
-      go gets-none = inr (inl refl)
-      go (gets-damage d) = inr (inr refl)
+  get-numbers = by-numbers gets
 
   -- THEOREM: what is not opened is get's answer
   pub open-get : (n : ℕ) → openedNumber (openOf body key) ≡ suc n → answerNumber (getOf body size key limit) ≡ suc n

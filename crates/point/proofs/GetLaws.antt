@@ -21,12 +21,13 @@ use Rattle.records.specs.declared.Limit.the-variants.{None, UpTo}
 use Rattle.records.specs.declared.Record.{Record}
 use Rattle.records.specs.declared.Within.{Within}
 use Rattle.records.specs.declared.Within.the-variants as within
-use Rattle.records.specs.declared.cursor.HeadRead.the-variants.{At, Outside}
-use Rattle.records.specs.Cursor.{headOf, headAt}
+use Rattle.records.specs.declared.cursor.HeadRead.{HeadRead}
+use Rattle.records.specs.Cursor.{headAt}
 use Rattle.records.specs.Model.{limitOf}
 use Rattle.records.specs.Places.{keyAt, firstVersion, versionCount}
 use Rattle.records.specs.Rules.{pastData}
 use Rattle.records.specs.Within.{firstWithin}
+use Rattle.records.proofs.CursorLaws.{head-whole}
 use Rattle.records.proofs.WithinLaws.{first-limit}
 use Rattle.point.specs.declared.Versions.{Versions}
 use Rattle.point.specs.declared.Answer.{Answer}
@@ -35,7 +36,7 @@ use Rattle.point.specs.declared.Located.{Located}
 use Rattle.point.specs.declared.Located.the-variants as located
 use Rattle.point.specs.declared.Opened.{Opened}
 use Rattle.point.specs.declared.Opened.the-variants as opened
-use Rattle.point.specs.Get.{locateHash, locateOf, openRecordOf, openAt, openOf, firstFor, answerOf, answerFrom, getOf, partOf, valueOf, startOf, ValuePost}
+use Rattle.point.specs.Get.{locateHash, locateOf, openHead, openRecordOf, openAt, openOf, firstFor, answerOf, answerFrom, getOf, partOf, valueOf, startOf, ValuePost}
 
 -- ---- the slot: n keys, pilot g, slot s, fingerprint f, u the 16 bits read, arena start a, offset o
 
@@ -75,30 +76,15 @@ module _ (body key : List ℕ) (r : ℕ) (isr : r ≡ headerRefusal body) where
 -- ---- the record
 
 module _ (body key : List ℕ) (p : ℕ) where
-  -- its head or its key lies outside the body
-  pub record-outside : headAt body p ≡ Outside → openRecordOf body p key ≡ opened.Damaged
-  unfolding openRecordOf headAt
-  record-outside e = go (ltb (length body) (p + 8)) (ltb (length body) (firstVersion body p)) e
-    where
-      rest : Opened
-      rest = cond (sameAs (keyAt body p) key) (opened.Open (record { first = firstVersion body p; count = versionCount body p })) opened.Nothing
+  -- by its head
+  pub record-head : (h : HeadRead) → headAt body p ≡ h → openRecordOf body p key ≡ openHead body p key h
+  unfolding openRecordOf
+  record-head h e = ap (openHead body p key) e
 
-      go : (s t : Bool) → cond s Outside (cond t Outside (At (headOf body p))) ≡ Outside → cond s opened.Damaged (cond t opened.Damaged rest) ≡ opened.Damaged
-      go true t q = refl
-      go false true q = refl
-      go false false q = absurd (let z : _≡_ {A = ℕ} 0 1 = cc in omega arith)
-
-  module _ (whole : firstVersion body p ≤ length body) where
-    head : p + 8 ≤ length body
-    head = omega arith
-
-    pub record-other : sameAs (keyAt body p) key ≡ false → openRecordOf body p key ≡ opened.Nothing
-    unfolding openRecordOf
-    record-other e = rw (le-ltb (length body) (p + 8) head, le-ltb (length body) (firstVersion body p) whole, e)
-
-    pub record-same : sameAs (keyAt body p) key ≡ true → openRecordOf body p key ≡ opened.Open (record { first = firstVersion body p; count = versionCount body p })
-    unfolding openRecordOf
-    record-same e = rw (le-ltb (length body) (p + 8) head, le-ltb (length body) (firstVersion body p) whole, e)
+  -- a whole one, by its key
+  pub record-whole : firstVersion body p ≤ length body → (b : Bool) → sameAs (keyAt body p) key ≡ b
+      → openRecordOf body p key ≡ cond b (opened.Open (record { first = firstVersion body p; count = versionCount body p })) opened.Nothing
+  record-whole whole b e = record-head _ (sym (head-whole body p _ _ refl refl whole)) ∙ rw e
 
 pub open-is : (body key : List ℕ) (l : Located) → l ≡ locateOf body key → openOf body key ≡ openAt body key l
 unfolding openOf

@@ -26,7 +26,7 @@ use Rattle.point.specs.declared.Opened.the-variants as opened
 use Rattle.point.specs.Validate.{validateOf}
 use Rattle.point.specs.Get.{locateOf, openOf}
 use Rattle.point.specs.Table.{tableOf, keyPlace, bodyKey, keySlot}
-use Rattle.point.proofs.GetLaws.{locate-on, locate-other, locate-at, open-is, record-other, record-same}
+use Rattle.point.proofs.GetLaws.{locate-on, locate-other, locate-at, open-is, record-whole}
 use Rattle.point.proofs.ValidateLaws.{passed}
 use Rattle.point.proofs.SlotLaws.{key-entered, key-belongs, hash-near, hash-slot, slots-apart, slot-hit}
 
@@ -74,7 +74,7 @@ module _ (body : List ℕ) (size : ℕ) (ok : validateOf body size ≡ Accepted)
         let k = key-entered body size ok i l .rules .key in
         let f : fingerprintLow body (slotPlace body (keySlot body key)) ≡ fingerprintOf (hashOf (seedIn body) key) =
         fingerprint-is ∙ ap (λ (x : List ℕ). fingerprintOf (hashOf (seedIn body) x)) (same-equal (bodyKey body i) key e) in
-        open-is body key _ (sym (located-at f)) ∙ record-same body key (keyPlace body i) (k .whole) e
+        open-is body key _ (sym (located-at f)) ∙ record-whole body key (keyPlace body i) (k .whole) true e
 
     -- the owner has another key
     open-nothing : sameAs (bodyKey body i) key ≡ false → openOf body key ≡ opened.Nothing
@@ -82,7 +82,7 @@ module _ (body : List ℕ) (size : ℕ) (ok : validateOf body size ≡ Accepted)
         let k = key-entered body size ok i l .rules .key in
         ⊎-elim
         (λ (f : fingerprintLow body (slotPlace body (keySlot body key)) ≡ fingerprintOf (hashOf (seedIn body) key)).
-        open-is body key _ (sym (located-at f)) ∙ record-other body key (keyPlace body i) (k .whole) e)
+        open-is body key _ (sym (located-at f)) ∙ record-whole body key (keyPlace body i) (k .whole) false e)
         (λ (n : fingerprintLow body (slotPlace body (keySlot body key)) ≡ fingerprintOf (hashOf (seedIn body) key) → ⊥). open-is body key _ (sym (located-nothing n)))
         (eq-or-ne (fingerprintLow body (slotPlace body (keySlot body key))) (fingerprintOf (hashOf (seedIn body) key)))
 

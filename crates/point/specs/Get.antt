@@ -8,11 +8,14 @@ use lib.ListN.{length, take, drop}
 use Rattle.words.specs.Part.{sameAs}
 use Rattle.mixing.specs.Mixing.{hashOf, fingerprintOf}
 use Rattle.layout.specs.Layout.{headerRefusal, seedIn, keysIn, arenaIn, pilotOf, directPast, slotOf, slotPlace, recordOffset, fingerprintLow}
+use Rattle.records.specs.declared.cursor.HeadRead.{HeadRead}
+use Rattle.records.specs.declared.cursor.HeadRead.the-variants as head
 use Rattle.records.specs.declared.Limit.{Limit}
 use Rattle.records.specs.declared.Within.{Within}
 use Rattle.records.specs.declared.Within.the-variants as within
 use Rattle.records.specs.Model.{kindByte}
-use Rattle.records.specs.Places.{keyAt, firstVersion, versionCount}
+use Rattle.records.specs.Places.{keyAt}
+use Rattle.records.specs.Cursor.{headAt}
 use Rattle.records.specs.Within.{firstWithin}
 use Rattle.point.specs.declared.Located.{Located}
 use Rattle.point.specs.declared.Located.the-variants as located
@@ -35,14 +38,14 @@ locateHash body h =
 unfoldable pub locateOf : List ℕ → List ℕ → Located
 locateOf body key = cond (eqb (headerRefusal body) 0) (locateHash body (hashOf (seedIn body) key)) located.Damaged
 
--- the versions of the record at p: 14 record header outside the body, 14 key outside the body, nothing where the key differs
+-- the versions of the record at p, by its head: 14 record header or key outside the body, nothing where the key differs
+abbrev pub openHead : List ℕ → ℕ → List ℕ → HeadRead → Opened
+openHead body p key head.Outside = opened.Damaged
+openHead body p key (head.At h) =
+    cond (sameAs (keyAt body p) key) (opened.Open (record { first = h .first; count = h .versions })) opened.Nothing
+
 unfoldable pub openRecordOf : List ℕ → ℕ → List ℕ → Opened
-openRecordOf body p key =
-    cond (ltb (length body) (p + 8)) opened.Damaged
-    (cond (ltb (length body) (firstVersion body p)) opened.Damaged
-    (cond (sameAs (keyAt body p) key)
-    (opened.Open (record { first = firstVersion body p; count = versionCount body p }))
-    opened.Nothing))
+openRecordOf body p key = openHead body p key (headAt body p)
 
 -- a key's versions
 abbrev pub openAt : List ℕ → List ℕ → Located → Opened

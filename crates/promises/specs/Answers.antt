@@ -17,7 +17,7 @@ use Rattle.builder.specs.declared.PointBuilder.{PointBuilder}
 use Rattle.builder.specs.Add.{Call, addCauses, addOf, addedNumber, stateValues, addedValues, nextState, nextPlace}
 use Rattle.construct.specs.declared.Constructed.{Constructed}
 use Rattle.construct.specs.Construct.{Placing, attemptOf, constructOf}
-use Rattle.construct.specs.Layout.{constructedNumber, constructedValues, ConstructPost}
+use Rattle.construct.specs.Answer.{constructedNumber, constructedValues, ConstructPost}
 use Rattle.finish.specs.Finish.{keysOf, bodyLength, finishOf, finishedNumber, finishedValues}
 use Rattle.point.specs.declared.Located.{Located}
 use Rattle.point.specs.declared.Opened.{Opened}

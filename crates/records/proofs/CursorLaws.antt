@@ -35,16 +35,15 @@ module _ (bytes : List ℕ) (p : ℕ) where
       let f : p + 8 ≤ length bytes = omega arith in
       rw (← el, ← ev, le-ltb (length bytes) (p + 8) f, le-ltb (length bytes) (p + 8 + l) h)
 
-  -- a head that was read is the entry's, and its key lies in the bytes
-  pub head-read : (h : Head) → headAt bytes p ≡ At h → (firstVersion bytes p ≤ length bytes) × (headOf bytes p ≡ h)
+  -- the key of a head that was read lies in the bytes
+  pub head-read : (h : Head) → headAt bytes p ≡ At h → firstVersion bytes p ≤ length bytes
   unfolding headAt
   head-read h e = go (ltb (length bytes) (p + 8)) (ltb (length bytes) (firstVersion bytes p)) refl e
     where
-      go : (s t : Bool) → ltb (length bytes) (firstVersion bytes p) ≡ t → cond s Outside (cond t Outside (At (headOf bytes p))) ≡ At h
-          → (firstVersion bytes p ≤ length bytes) × (headOf bytes p ≡ h)
+      go : (s t : Bool) → ltb (length bytes) (firstVersion bytes p) ≡ t → cond s Outside (cond t Outside (At (headOf bytes p))) ≡ At h → firstVersion bytes p ≤ length bytes
       go true t q z = absurd (let y : _≡_ {A = ℕ} 0 1 = cc in omega arith)
       go false true q z = absurd (let y : _≡_ {A = ℕ} 0 1 = cc in omega arith)
-      go false false q z = (ltb-false (length bytes) (firstVersion bytes p) q, cc)
+      go false false q z = ltb-false (length bytes) (firstVersion bytes p) q
 
   -- ---- a version
 

@@ -22,9 +22,6 @@ put-line-requires c κs =
     (line-ends (entryAt (a .body .now) (a .p) .key) (shown newestTombstone (a .limit) (entryAt (a .body .now) (a .p))) _
     (sym (c .before .before .before .before .before .shown-at .ensures) ∙ c .before .before .before .found .given .1) (c .before .before .before .before .before .before .before .before .pre .1))
 
-enum-told : tie.Need-enum-told
-enum-told c = search needs
-
 same-length : tie.Need-same-length
 same-length c = c .before .before .put-line .kept .0
 
@@ -55,7 +52,7 @@ put-entry-spec =
     (λ c. search needs)
     key-at-requires
     put-line-requires
-    enum-told
+    (λ c. search needs)
     (λ c. search needs)
     same-length
     returns

@@ -3,9 +3,6 @@ use borrow.Author.Needs.{needs}
 use Rattle.lines.proofs.put_kind.Statement.{statement}
 use Rattle.lines.proofs.put_kind.Tie as tie
 
-enum-told : tie.Need-enum-told
-enum-told c = search needs
-
 put-word-requires : tie.Need-put-word-requires
 put-word-requires c κs = rw (c .before .before .enum-told .given .1) at (c .before .before .before .before .before .pre)
 
@@ -22,7 +19,7 @@ pub put-kind-spec : {M : Type 1} → statement M
 put-kind-spec =
     tie.close
     (tie.spec
-    enum-told
+    (λ c. search needs)
     (λ c. search needs)
     put-word-requires
     (λ c. search needs)

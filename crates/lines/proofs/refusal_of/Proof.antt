@@ -16,9 +16,6 @@ returns-2 c = size-long _ (c .before .if1 .left) (c .if2 .taken)
 u64-at-requires : tie.Need-u64-at-requires
 u64-at-requires c κs = omega (arith, c .before .before .if1 .left)
 
-enum-told : tie.Need-enum-told
-enum-told c = search needs
-
 returns-3 : tie.Need-returns-3
 returns-3 c = sym (ap refusalNumber (c .enum-told .given .1)) ∙ size-passed _ (c .before .before .before .before .before .before .if1 .left) (c .before .before .before .before .before .if2 .left) _ _ (c .before .before .before .u64-at .ensures) (c .before .before .validate .ensures)
 
@@ -36,7 +33,7 @@ refusal-of-spec =
     (λ c. search needs)
     u64-at-requires
     (λ c κs. search needs)
-    enum-told
+    (λ c. search needs)
     (λ c. search needs)
     returns-3
     returns-4)

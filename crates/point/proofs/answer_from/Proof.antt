@@ -5,9 +5,6 @@ use borrow.Author.Needs.{needs}
 use Rattle.point.proofs.answer_from.Statement.{statement}
 use Rattle.point.proofs.answer_from.Tie as tie
 
-enum-told : tie.Need-enum-told
-enum-told c = search needs
-
 returns : tie.Need-returns
 returns c =
     let a = c .before .before .before .before .before .before .args in
@@ -26,7 +23,7 @@ answer-from-spec =
     (λ c. search needs)
     (λ c κs. search needs)
     (λ c κs. search needs)
-    enum-told
+    (λ c. search needs)
     (λ c. search needs)
     returns
     returns-2

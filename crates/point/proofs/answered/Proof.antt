@@ -8,9 +8,6 @@ use Rattle.point.proofs.answered.Tie as tie
 returns : tie.Need-returns
 returns c = sym (answer-past _ _ (c .before .before .before .found .given .0 .0) (c .before .before .before .found .given .1) _ (c .before .past-data .ensures) (c .if1 .taken))
 
-enum-told : tie.Need-enum-told
-enum-told c = search needs
-
 returns-2 : tie.Need-returns-2
 returns-2 c = sym (answer-found _ _ (c .before .before .before .found .given .0 .0) (c .before .before .before .found .given .1) _ (c .before .past-data .ensures) (c .if1 .left))
 
@@ -27,7 +24,7 @@ answered-spec =
     (λ c. search needs)
     (λ c κs. search needs)
     returns
-    enum-told
+    (λ c. search needs)
     (λ c. search needs)
     returns-2
     returns-3

@@ -42,12 +42,6 @@ returns c = let l = c .before .before .before .loop in
 next-entry-requires : tie.Need-next-entry-requires Inv-loop μ-loop
 next-entry-requires c κs = let l = c .before .before .before .loop in entered (slotRefusal (c .before .before .before .before .before .before .before .args .body .now)) _ (Of (c .before .before .before .before .before .before .before .args .data-length)) (l .prev) (l .p) (sym (c .before .entry-refusal .ensures) ∙ c .if1 .left) .next
 
-sub-left : tie.Need-sub-left Inv-loop μ-loop
-sub-left c = search needs
-
-loop-less : tie.Need-loop-less Inv-loop μ-loop
-loop-less c = search needs
-
 loop-again : tie.Need-loop-again Inv-loop μ-loop
 loop-again c = let l = c .before .before .before .before .loop in
     let z = sym (c .before .before .entry-refusal .ensures) ∙ c .before .if1 .left in
@@ -77,8 +71,8 @@ arena-refusal-spec =
     entry-refusal-requires
     returns
     next-entry-requires
-    sub-left
-    loop-less
+    (λ c. search needs)
+    (λ c. search needs)
     loop-again
     returns-2
     returns-3)

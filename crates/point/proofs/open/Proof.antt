@@ -6,9 +6,6 @@ use borrow.Author.Needs.{needs}
 use Rattle.point.proofs.open.Statement.{statement}
 use Rattle.point.proofs.open.Tie as tie
 
-enum-told : tie.Need-enum-told
-enum-told c = search needs
-
 returns : tie.Need-returns
 returns c = c .open-record .ensures ∙ sym (open-is _ (c .before .before .before .before .before .before .before .args .key .now) _ (c .before .before .before .before .locate .ensures) ∙ ap (openAt _ _) (c .before .before .l .given .1))
 
@@ -25,7 +22,7 @@ open-spec =
     (λ c κs. search needs)
     (λ c. search needs)
     (λ c κs. search needs)
-    enum-told
+    (λ c. search needs)
     (λ c. search needs)
     returns
     returns-2

@@ -4,35 +4,28 @@ use mathlib.Core.List.{List}
 use Prim.Native.Nat.{ℕ}
 use borrow.Author.Needs.{needs}
 use Rattle.words.specs.Part.{sameAs}
-use Rattle.records.specs.declared.cursor.Head.{Head}
 use Rattle.records.proofs.CursorLaws.{head-read}
-use Rattle.point.specs.declared.Opened.the-variants.{Open}
-use Rattle.point.proofs.GetLaws.{record-outside, record-other, record-same}
+use Rattle.point.proofs.GetLaws.{record-head}
 use Rattle.point.proofs.open_record.Statement.{statement}
 use Rattle.point.proofs.open_record.Tie as tie
 
 key-at-requires : tie.Need-key-at-requires
-key-at-requires c κs = head-read _ _ (c .before .read .given .0 .0) (sym (c .before .before .before .head-at .ensures) ∙ c .before .read .given .1) .0
+key-at-requires c κs = head-read _ _ (c .before .read .given .0 .0) (sym (c .before .before .before .head-at .ensures) ∙ c .before .read .given .1)
 
 returns : tie.Need-returns
 returns c =
     let a = c .before .before .before .before .before .before .before .before .before .args in
-    let w = head-read (a .body .now) (a .place) (c .before .before .before .before .read .given .0 .0) (sym (c .before .before .before .before .before .before .head-at .ensures) ∙ c .before .before .before .before .read .given .1) in
     let s = ap (λ (k : List ℕ). sameAs k (a .key .now)) (sym (c .before .before .key-at .ensures)) ∙ sym (c .before .same .ensures) ∙ c .if1 .taken in
-    sym (record-same (a .body .now) (a .key .now) (a .place) (w .0) s ∙ ap (λ (h : Head). Open (record { first = h .first; count = h .versions })) (w .1))
-
-enum-told : tie.Need-enum-told
-enum-told c = search needs
+    sym (record-head (a .body .now) (a .key .now) (a .place) _ (sym (c .before .before .before .before .before .before .head-at .ensures) ∙ c .before .before .before .before .read .given .1) ∙ rw s)
 
 returns-2 : tie.Need-returns-2
 returns-2 c =
     let a = c .before .before .before .before .before .before .before .before .before .args in
-    let w = head-read (a .body .now) (a .place) (c .before .before .before .before .read .given .0 .0) (sym (c .before .before .before .before .before .before .head-at .ensures) ∙ c .before .before .before .before .read .given .1) in
     let s = ap (λ (k : List ℕ). sameAs k (a .key .now)) (sym (c .before .before .key-at .ensures)) ∙ sym (c .before .same .ensures) ∙ c .if1 .left in
-    sym (record-other (a .body .now) (a .key .now) (a .place) (w .0) s)
+    sym (record-head (a .body .now) (a .key .now) (a .place) _ (sym (c .before .before .before .before .before .before .head-at .ensures) ∙ c .before .before .before .before .read .given .1) ∙ rw s)
 
 returns-3 : tie.Need-returns-3
-returns-3 c = sym (record-outside _ _ _ (sym (c .before .before .head-at .ensures) ∙ c .enum-told .given .1))
+returns-3 c = sym (record-head _ _ _ _ (sym (c .before .before .head-at .ensures) ∙ c .enum-told .given .1))
 
 pub open-record-spec : {M : Type 1} → statement M
-open-record-spec = tie.close (tie.spec (λ c κs. search needs) (λ c. search needs) key-at-requires (λ c κs. search needs) returns enum-told returns-2 returns-3)
+open-record-spec = tie.close (tie.spec (λ c κs. search needs) (λ c. search needs) key-at-requires (λ c κs. search needs) returns (λ c. search needs) returns-2 returns-3)

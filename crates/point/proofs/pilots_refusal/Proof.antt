@@ -23,9 +23,6 @@ keys-in-requires c κs = let h = headed _ (c .before .pre) in omega arith
 buckets-in-requires : tie.Need-buckets-in-requires Inv-loop μ-loop
 buckets-in-requires c κs = let h = headed _ (c .before .before .pre) in omega arith
 
-cast-b : tie.Need-cast-b Inv-loop μ-loop
-cast-b c = search needs
-
 loop-holds : tie.Need-loop-holds Inv-loop μ-loop
 loop-holds c = (c .before .keys-in .ensures, c .buckets-in .ensures, omega arith, cc (sub-zero (c .buckets-in .result), c .before .keys-in .ensures, c .buckets-in .ensures))
 
@@ -38,20 +35,11 @@ add-u32-at c = let h = headed _ (c .before .before .before .before .before .pre)
 u32-at-requires : tie.Need-u32-at-requires Inv-loop μ-loop
 u32-at-requires c κs = let h = headed _ (c .before .before .before .before .before .pre) in let l = c .before .loop .inv in omega arith
 
-direct-past-requires : tie.Need-direct-past-requires Inv-loop μ-loop
-direct-past-requires c κs = search needs
-
 returns : tie.Need-returns Inv-loop μ-loop
 returns c =
     let l = c .before .before .before .before .loop in
     let e : pilotAt (c .before .before .before .before .before .before .before .before .args .body .now) (l .i) ≡ c .before .before .u32-at .result = sym (c .before .before .u32-at .ensures) in
     sym (pilots-past _ _ (l .i) _ (omega arith) (ap (directPast _) e ∙ sym (c .before .direct-past .ensures) ∙ c .if1 .taken)) ∙ l .inv .3
-
-add-i : tie.Need-add-i Inv-loop μ-loop
-add-i c = search needs
-
-loop-less : tie.Need-loop-less Inv-loop μ-loop
-loop-less c = search needs
 
 loop-again : tie.Need-loop-again Inv-loop μ-loop
 loop-again c =
@@ -70,14 +58,14 @@ pilots-refusal-spec =
     μ-loop
     keys-in-requires
     buckets-in-requires
-    cast-b
+    (λ c. search needs)
     loop-holds
     mul-u32-at
     add-u32-at
     u32-at-requires
-    direct-past-requires
+    (λ c κs. search needs)
     returns
-    add-i
-    loop-less
+    (λ c. search needs)
+    (λ c. search needs)
     loop-again
     returns-2)

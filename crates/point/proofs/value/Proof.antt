@@ -12,9 +12,6 @@ add-to c = let f = get-fits _ _ _ _ (c .before .before .a .given .0 .0) (sym (c 
 part-result-end : tie.Need-part-result-end
 part-result-end c = let f = get-fits _ _ _ _ (c .before .before .a .given .0 .0) (sym (c .before .before .before .before .get .ensures) ∙ c .before .before .a .given .1) in search needs
 
-enum-told : tie.Need-enum-told
-enum-told c = search needs
-
 returns : tie.Need-returns
 returns c = value-found _ _ (c .before .before .before .before .before .before .before .before .before .args .key .now) (c .before .before .before .before .before .before .before .before .before .args .limit) _ (c .before .before .before .before .before .get .ensures) (c .before .before .before .before .before .before .before .before .before .args .«data» .ptr) refl (c .before .before .before .a .given .0 .0) (c .before .before .before .a .given .1) (omega arith)
 
@@ -35,7 +32,7 @@ value-spec =
     (λ c. search needs)
     (λ c. search needs)
     part-result-end
-    enum-told
+    (λ c. search needs)
     (λ c. search needs)
     (λ c. search needs)
     (λ c. search needs)

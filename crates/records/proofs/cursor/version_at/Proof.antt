@@ -12,9 +12,6 @@ returns c = version-outside _ _ (omega arith)
 returns-2 : tie.Need-returns-2
 returns-2 c = version-outside _ _ (omega arith)
 
-enum-told : tie.Need-enum-told
-enum-told c = search needs
-
 returns-3 : tie.Need-returns-3
 returns-3 c =
     let f = c .before .before .before .from-byte .ensures in
@@ -39,6 +36,6 @@ version-at-spec =
     (λ c. search needs)
     (λ c κs. search needs)
     (λ c. search needs)
-    enum-told
+    (λ c. search needs)
     returns-3
     returns-4)

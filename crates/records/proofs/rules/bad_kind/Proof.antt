@@ -5,9 +5,6 @@ use borrow.Author.Needs.{needs}
 use Rattle.records.proofs.rules.bad_kind.Statement.{statement}
 use Rattle.records.proofs.rules.bad_kind.Tie as tie
 
-enum-told : tie.Need-enum-told
-enum-told c = search needs
-
 returns : tie.Need-returns
 returns c = sym (kind-known (c .before .before .before .args .b) _ (sym (c .before .before .from-byte .ensures) ∙ c .enum-told .given .1) .0)
 
@@ -15,4 +12,4 @@ returns-2 : tie.Need-returns-2
 returns-2 c = sym (kind-unknown (c .before .before .before .args .b) (sym (c .before .before .from-byte .ensures) ∙ c .enum-told2 .given .1))
 
 pub bad-kind-spec : {M : Type 1} → statement M
-bad-kind-spec = tie.close (tie.spec (λ c κs. search needs) enum-told (λ c. search needs) returns returns-2)
+bad-kind-spec = tie.close (tie.spec (λ c κs. search needs) (λ c. search needs) (λ c. search needs) returns returns-2)

@@ -10,9 +10,6 @@ use borrow.Author.Needs.{needs}
 use Rattle.records.proofs.rules.past_data.Statement.{statement}
 use Rattle.records.proofs.rules.past_data.Tie as tie
 
-enum-told : tie.Need-enum-told
-enum-told c = search needs
-
 returns : tie.Need-returns
 returns c = sym (ap (λ (t : DataLength). pastData t (c .before .before .before .before .args .offset) (c .before .before .before .before .args .size)) (c .before .before .test .given .1) ∙ lt-ltb (c .before .before .test .given .0 .0) (c .before .before .before .before .args .offset + c .before .before .before .before .args .size) (omega arith))
 
@@ -23,4 +20,4 @@ returns-3 : tie.Need-returns-3
 returns-3 c = sym (ap (λ (t : DataLength). pastData t (c .before .before .before .before .args .offset) (c .before .before .before .before .args .size)) (c .before .before .test .given .1) ∙ ltb-less (c .before .before .test .given .0 .0) (c .before .before .before .before .args .offset) (c .before .before .before .before .args .size) (omega arith))
 
 pub past-data-spec : {M : Type 1} → statement M
-past-data-spec = tie.close (tie.spec enum-told (λ c. search needs) returns returns-2 returns-3)
+past-data-spec = tie.close (tie.spec (λ c. search needs) (λ c. search needs) returns returns-2 returns-3)

@@ -32,12 +32,6 @@ add-at c =
     let v = versioned (c .before .before .before .before .before .args .bytes .now) (c .before .before .before .before .before .args .test) (l .prev) (l .at) (sym (c .before .version-refusal .ensures) ∙ c .if1 .left) in
     omega arith
 
-sub-left : tie.Need-sub-left Inv-loop μ-loop
-sub-left c = search needs
-
-loop-less : tie.Need-loop-less Inv-loop μ-loop
-loop-less c = search needs
-
 loop-again : tie.Need-loop-again Inv-loop μ-loop
 loop-again c =
     let l = c .before .before .before .loop in
@@ -60,7 +54,7 @@ versions-refusal-spec =
     version-refusal-requires
     returns
     add-at
-    sub-left
-    loop-less
+    (λ c. search needs)
+    (λ c. search needs)
     loop-again
     returns-2)

@@ -5,9 +5,6 @@ use borrow.Author.Needs.{needs}
 use Rattle.records.proofs.search.entry_within.Statement.{statement}
 use Rattle.records.proofs.search.entry_within.Tie as tie
 
-enum-told : tie.Need-enum-told
-enum-told c = search needs
-
 returns : tie.Need-returns
 returns c = c .first-within .ensures ∙ sym (entry-head _ (c .before .before .before .before .before .before .args .place) _ _ (sym (c .before .before .before .before .head-at .ensures) ∙ c .before .before .read .given .1))
 
@@ -21,6 +18,6 @@ entry-within-spec =
     (λ c κs. search needs)
     (λ c. search needs)
     (λ c κs. search needs)
-    enum-told
+    (λ c. search needs)
     returns
     returns-2)

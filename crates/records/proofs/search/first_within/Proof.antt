@@ -38,9 +38,6 @@ returns c =
     ∙ l .inv
     ∙ whole (c .before .before .before .before .before .before .before .before)
 
-enum-told : tie.Need-enum-told Inv-loop μ-loop
-enum-told c = search needs
-
 returns-2 : tie.Need-returns-2 Inv-loop μ-loop
 returns-2 c =
     let l = c .before .before .before .before .loop in
@@ -76,7 +73,7 @@ first-within-spec =
     (λ c κs. search needs)
     (λ c. search needs)
     returns
-    enum-told
+    (λ c. search needs)
     returns-2
     add-at
     (λ c. search needs)

@@ -41,12 +41,6 @@ next-entry-requires c κs =
     let n = entered unslotted (a .bytes .now) (a .test) (l .prev) (l .p) e in
     n .next
 
-add-keys : tie.Need-add-keys Inv-loop μ-loop
-add-keys c = search needs
-
-loop-less : tie.Need-loop-less Inv-loop μ-loop
-loop-less c = search needs
-
 loop-again : tie.Need-loop-again Inv-loop μ-loop
 loop-again c =
     let a = c .before .before .before .before .before .before .args in
@@ -83,8 +77,8 @@ walk-spec =
     entry-refusal-requires
     returns
     next-entry-requires
-    add-keys
-    loop-less
+    (λ c. search needs)
+    (λ c. search needs)
     loop-again
     returns-2
     returns-3)
