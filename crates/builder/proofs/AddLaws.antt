@@ -20,7 +20,7 @@ use Rattle.builder.specs.declared.Added.{Added}
 use Rattle.builder.specs.declared.Added.the-variants.{Refused}
 use Rattle.builder.specs.State.{fits, lastOf, roomOf}
 use Rattle.builder.proofs.StateLaws.{fits-known, fits-inside}
-use Rattle.builder.specs.Add.{Call, risesAfter, newCauses, continuedCauses, keyCauses, takingCauses, addCauses, addRefusal, Sized, AddOpened, Continued, nextState, appended, addOf, bufferAfterAdd, AddPost}
+use Rattle.builder.specs.Add.{Call, risesAfter, newCauses, continuedCauses, appendingCauses, takingCauses, addCauses, addRefusal, Sized, AddOpened, Continued, nextState, appended, addOf, bufferAfterAdd, AddPost}
 use Rattle.builder.specs.Inner.Append.{AppendPost}
 
 -- a key beside the last one
@@ -41,12 +41,12 @@ module _ (s : PointBuilder) (buffer : List ℕ) (call : Call) where
   unfolding addCauses takingCauses
   add-numbered = numbered-more (lit< tt) (numbered-more (lit< tt) (numbered-more (lit< tt) (numbered-more (lit< tt) (key-numbered (call .newKey)))))
 
-  sized-from : None (addCauses s buffer call) → Sized s buffer call × None (keyCauses s (lastOf s buffer) (roomOf s buffer) call)
+  sized-from : None (addCauses s buffer call) → Sized s buffer call × None (appendingCauses s (lastOf s buffer) (roomOf s buffer) call)
   unfolding addCauses takingCauses
   sized-from (none-more f (none-more k (none-more z (none-more t rest)))) =
       (record { fitting = not-false (fits s buffer) f; short = ltb-false mostKeyBytes (length (call .key)) k; small = ltb-false mostValueBytes (call .size) z; valued = t }, rest)
 
-  pub sized-passed : addRefusal s buffer call ≡ 0 → Sized s buffer call × None (keyCauses s (lastOf s buffer) (roomOf s buffer) call)
+  pub sized-passed : addRefusal s buffer call ≡ 0 → Sized s buffer call × None (appendingCauses s (lastOf s buffer) (roomOf s buffer) call)
   unfolding addRefusal
   sized-passed e = sized-from (none-only add-numbered e)
 
@@ -100,12 +100,12 @@ module _ {s : PointBuilder} {buffer : List ℕ} {call : Call} where
   -- ---- a call that passes 1, 2 and 3: the causes of the key decide
 
   module _ (k : Sized s buffer call) where
-    pub sized-none : None (keyCauses s (lastOf s buffer) (roomOf s buffer) call) → None (addCauses s buffer call)
+    pub sized-none : None (appendingCauses s (lastOf s buffer) (roomOf s buffer) call) → None (addCauses s buffer call)
     unfolding addCauses takingCauses
     sized-none rest =
         none-more (ap not (k .fitting)) (none-more (le-ltb mostKeyBytes (length (call .key)) (k .short)) (none-more (le-ltb mostValueBytes (call .size) (k .small)) (none-more (k .valued) rest)))
 
-    pub sized-first : {n : ℕ} → First n (keyCauses s (lastOf s buffer) (roomOf s buffer) call) → First n (addCauses s buffer call)
+    pub sized-first : {n : ℕ} → First n (appendingCauses s (lastOf s buffer) (roomOf s buffer) call) → First n (addCauses s buffer call)
     unfolding addCauses takingCauses
     sized-first rest =
         later (ap not (k .fitting)) (later (le-ltb mostKeyBytes (length (call .key)) (k .short)) (later (le-ltb mostValueBytes (call .size) (k .small)) (later (k .valued) rest)))

@@ -19,13 +19,11 @@ use Rattle.records.specs.Model.{versionBytes, entryBytes}
 use Rattle.records.specs.Places.{versionCount}
 use Rattle.records.proofs.WriteLaws.{version-size, entry-size}
 use Rattle.builder.specs.declared.PointBuilder.{PointBuilder}
-use Rattle.builder.specs.declared.Added.{Added}
 use Rattle.builder.specs.declared.Added.the-variants as added
-use Rattle.builder.specs.declared.OffsetSet.{OffsetSet}
 use Rattle.builder.specs.declared.OffsetSet.the-variants as offset-set
-use Rattle.builder.specs.State.{emptyBuilder, lastOf, roomOf}
-use Rattle.builder.specs.Add.{Call, newCauses, continuedCauses, addCauses, addRefusal, Sized, AddOpened, Continued, nextState, nextPlace, recordOf, newEntry, newBuffer, continuedBuffer, appended, addOf, bufferAfterAdd, addedNumber, stateValues, addedValues, AddPost}
-use Rattle.builder.specs.SetOffset.{setCauses, setOf, bufferAfterSet, setNumber, SetPost}
+use Rattle.builder.specs.State.{lastOf, roomOf}
+use Rattle.builder.specs.Add.{Call, newCauses, continuedCauses, addCauses, addRefusal, Sized, AddOpened, Continued, nextState, nextPlace, recordOf, newEntry, newBuffer, continuedBuffer, appended, addOf, bufferAfterAdd, addedNumber, stateValues, addedValues}
+use Rattle.builder.specs.SetOffset.{setCauses, setOf, bufferAfterSet, setNumber}
 use Rattle.builder.proofs.StateLaws.{fits-known}
 use Rattle.builder.proofs.AddLaws.{add-numbered, sized-none, sized-first, new-ready, continued-ready}
 use Rattle.builder.proofs.AnswerLaws.{taken-known, taken-given, buffer-taken, refused-known, refused-given, add-number, set-numbered, set-passed, set-known, set-given, buffer-set, unset-known, unset-given, set-number}
@@ -87,10 +85,6 @@ module _ (s : PointBuilder) (buffer : List ℕ) (call : Call) where
   -- THEOREM: a refusal has no values
   pub refused-values : {n : ℕ} → First n (addCauses s buffer call) → (stateValues (addOf s buffer call) ≡ []) × (addedValues (addOf s buffer call) ≡ [])
   refused-values f = let e = add-refuses f .0 in (ap stateValues e, ap addedValues e)
-
-  -- THEOREM: two results that meet the contract coincide, the buffer included
-  pub add-unique : {r₁ r₂ : Added} {after₁ after₂ : List ℕ} → AddPost s buffer call r₁ after₁ → AddPost s buffer call r₂ after₂ → (r₁ ≡ r₂) × (after₁ ≡ after₂)
-  add-unique p q = (p .answer ∙ sym (q .answer), p .buffer ∙ sym (q .buffer))
 
   -- THEOREM: a new key that breaks no rule and has room is taken
   pub new-taken : Sized s buffer call → AddOpened s buffer call → addOf s buffer call ≡ added.Taken (nextState s call) (nextPlace s call)
@@ -182,13 +176,3 @@ module _ (s : PointBuilder) (buffer : List ℕ) (place offset : ℕ) where
       let l : length (bytesOf 8 offset) ≡ 8 = length-bytesOf 8 offset in
       let fit : place + length (bytesOf 8 offset) ≤ length buffer = rw l (omega arith) in
       rw (buffer-set s buffer place offset z) (drop-past buffer place (bytesOf 8 offset) (s .used) fit (omega arith), length-splice buffer place (bytesOf 8 offset) fit)
-
-  -- THEOREM: two results that meet the contract coincide, the buffer included
-  pub set-unique : {r₁ r₂ : OffsetSet} {after₁ after₂ : List ℕ} → SetPost s buffer place offset r₁ after₁ → SetPost s buffer place offset r₂ after₂ → (r₁ ≡ r₂) × (after₁ ≡ after₂)
-  set-unique p q = (p .answer ∙ sym (q .answer), p .buffer ∙ sym (q .buffer))
-
--- ---- the empty builder
-
--- THEOREM: two states that meet its contract coincide
-pub empty-unique : {r s : PointBuilder} → r ≡ emptyBuilder → s ≡ emptyBuilder → r ≡ s
-empty-unique p q = p ∙ sym q

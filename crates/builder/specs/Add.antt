@@ -54,9 +54,9 @@ continuedCauses s last room key sequence =
     ∷ cause (ltb room 21) 6
     ∷ []
 
--- those of the key
-abbrev pub keyCauses : PointBuilder → Last → (room : ℕ) → Call → List Cause
-keyCauses s last room call =
+-- of the key, new or continued
+abbrev pub appendingCauses : PointBuilder → Last → (room : ℕ) → Call → List Cause
+appendingCauses s last room call =
     cond (call .newKey) (newCauses s last room (call .key)) (continuedCauses s last room (call .key) (call .sequence))
 
 -- of a state that fits, with the last record and the room left: 2 key over 1,048,576 or value over 16,777,216 bytes, 3 tombstone with nonzero
@@ -66,7 +66,7 @@ takingCauses s last room call =
     cause (ltb mostKeyBytes (length (call .key))) 2
     ∷ cause (ltb mostValueBytes (call .size)) 2
     ∷ cause (fullTombstone (kindByte (call .kind)) (call .size)) 3
-    ∷ keyCauses s last room call
+    ∷ appendingCauses s last room call
 
 -- the causes of add in their order: 1 builder state and buffer do not fit, and then those of a state that fits
 unfoldable pub addCauses : PointBuilder → List ℕ → Call → List Cause

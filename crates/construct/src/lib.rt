@@ -4,6 +4,7 @@ pub mod group;
 pub mod keys;
 pub mod pilot;
 pub mod place;
+pub mod places;
 pub mod seat;
 pub mod single;
 pub mod twins;

@@ -145,8 +145,8 @@ module _ (s : Sizes) (hs : List ℕ) where
   pub record FirstPeel (i seed : ℕ) : Type 0 where
     pub below : i < 100
     pub peels : peelsBy s hs (i + 1) ≡ true
-    pub seed-is : mixOf (i + 1) ≡ seed
-    pub before : (j : ℕ) → 1 ≤ j → j < i + 1 → peelsBy s hs j ≡ false
+    pub seed-mixed : mixOf (i + 1) ≡ seed
+    pub first : (j : ℕ) → 1 ≤ j → j < i + 1 → peelsBy s hs j ≡ false
 
   pub attempt-some : (i seed : ℕ) → firstAttempt s hs ≡ some (i, seed) → FirstPeel i seed
   unfolding firstAttempt
@@ -156,8 +156,8 @@ module _ (s : Sizes) (hs : List ℕ) where
       record {
         below = omega (arith, f .1);
         peels = p .0;
-        seed-is = p .1;
-        before = λ j l m.
+        seed-mixed = p .1;
+        first = λ j l m.
             let k : j - 1 + 1 ≡ j = omega arith in
             ap (peelsBy s hs) (sym k) ∙ seed-fails _ _ (least-before (seedBy s hs) 100 0 i seed e (j - 1) (omega arith) (omega arith));
       }
@@ -212,7 +212,7 @@ module _ (s : Sizes) (hs before after : List ℕ) (i : ℕ) (S : SearchPost s hs
         go (some (j, a)) q =
             let F = attempt-some s hs j a q in
             let k : i ≡ j + 1 = S .first ∙ ap attemptNumber q in
-            (j, q ∙ ap (λ (x : ℕ). some (j, x)) (sym (F .seed-is) ∙ ap mixOf (sym k) ∙ sym e), ap (peelsBy s hs) k ∙ F .peels)
+            (j, q ∙ ap (λ (x : ℕ). some (j, x)) (sym (F .seed-mixed) ∙ ap mixOf (sym k) ∙ sym e), ap (peelsBy s hs) k ∙ F .peels)
 
     cells-are : after ≡ cellsLaid (s .segment) (s .count) seed hs
     cells-are = S .cells ∙ ap (λ (o : Option (ℕ × ℕ)). cellsBy (byAttempt s o) hs before) (found .1)

@@ -81,7 +81,7 @@ whose hashes few b (tried l t) s e = go (firstAttempt (sizesOf (length hashes)) 
     go (some (i, a)) q p =
         let F = attempt-some (sizesOf (length hashes)) (sorted hashes) i a q in
         let r : seeded (sizesOf (length hashes)) a ≡ s = cc in
-        let k : s ≡ seeded (sizesOf (length hashes)) (mixOf (i + 1)) = sym (ap (seeded (sizesOf (length hashes))) (F .seed-is) ∙ r) in
+        let k : s ≡ seeded (sizesOf (length hashes)) (mixOf (i + 1)) = sym (ap (seeded (sizesOf (length hashes))) (F .seed-mixed) ∙ r) in
         record {
           attempt = i + 1;
           some-hash = l;
@@ -89,7 +89,7 @@ whose hashes few b (tried l t) s e = go (firstAttempt (sizesOf (length hashes)) 
           sizes = k;
           enough = seeded-enough (length hashes) (mixOf (i + 1)) s k l few;
           peels = F .peels;
-          first = F .before;
+          first = F .first;
         }
 
 pub built-filter : (hashes : List ℕ) → length hashes ≤ mostHashes → (s : Sizes) → builtOf hashes ≡ Fuse s → FilterOf hashes s
@@ -242,15 +242,3 @@ module _ {hashes wide narrow out : List ℕ} {r : Built} {hashes' wide' narrow' 
     pub never-absent : (hash : ℕ) → 1 ≤ occurs hash hashes → askOf (take (lengthBy r) out') hash ≡ Maybe
     never-absent hash k =
         ap (λ (bytes : List ℕ). askOf bytes hash) written ∙ asks-by hashes (few n) r (passed number (builtOf hashes) r answered n .1) n hash k
-
--- two results that meet the contract coincide, lent bytes included
-pub build-unique : {hashes wide narrow out : List ℕ} {r q : Built} {h w m o h' w' m' o' : List ℕ}
-    → BuildPost hashes wide narrow out r h w m o → BuildPost hashes wide narrow out q h' w' m' o'
-    → (r ≡ q) × (h ≡ h') × (w ≡ w') × (m ≡ m') × (o ≡ o')
-build-unique p t = (
-  p .answer ∙ sym (t .answer),
-  p .hashes-after ∙ sym (t .hashes-after),
-  p .wide-after ∙ sym (t .wide-after),
-  p .narrow-after ∙ sym (t .narrow-after),
-  p .out-after ∙ sym (t .out-after),
-)

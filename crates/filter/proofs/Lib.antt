@@ -3,6 +3,5 @@ pub mod AskLaws
 pub mod WriteLaws
 pub mod ExactLaws
 pub mod WrittenLaws
-pub mod UniqueLaws
 pub mod BuildingLaws
 pub mod BuiltLaws

@@ -21,9 +21,8 @@ use Rattle.construct.specs.Promised.{AttemptFails}
 use Rattle.construct.proofs.KeysLaws.{hashes-long}
 use Rattle.construct.proofs.Failing.{fails-attempt, attempt-fails}
 use Rattle.construct.proofs.Exhausting.{all-fail, none-left}
-use Rattle.finish.specs.declared.Finished.{Finished}
 use Rattle.finish.specs.Body.{placedOf}
-use Rattle.finish.specs.Finish.{walked, keysOf, walkedCauses, walkedRefusal, unplaced, mismatched, placingCauses, lengthsRefusal, placingRefusal, finishCauses, finishRefusal, answered, bodyLength, finishOf, FinishPost, SameResult, finishedNumber, finishedValues}
+use Rattle.finish.specs.Finish.{walked, keysOf, walkedCauses, walkedRefusal, unplaced, mismatched, placingCauses, lengthsRefusal, placingRefusal, finishCauses, finishRefusal, answered, bodyLength, finishOf, finishedNumber, finishedValues}
 use Rattle.finish.proofs.LengthLaws.{lengths}
 use Rattle.finish.proofs.FinishLaws.{refused-by, refused-late}
 use Rattle.finish.proofs.SelfCheck.{check-passes}
@@ -135,12 +134,3 @@ body-or-ten arena out wide narrow any z = go (placedOf arena (keysOf arena)) ref
         → (finishedNumber (finishOf arena out wide narrow) ≡ 0) ⊎ (finishedNumber (finishOf arena out wide narrow) ≡ 10)
     go none q e = inr (e ∙ rw q)
     go (some (i, pl)) q e = inl (e ∙ rw (q, check-passes arena (keysOf arena) i pl any q))
-
--- THEOREM: finish's answer and every lent byte are fixed
-pub finish-one : (arena out wide narrow : List ℕ) (r s : Finished) (o1 o2 w1 w2 u1 u2 : List ℕ) → FinishPost arena out wide narrow r o1 w1 u1 → FinishPost arena out wide narrow s o2 w2 u2 → SameResult r s o1 o2 w1 w2 u1 u2
-finish-one arena out wide narrow r s o1 o2 w1 w2 u1 u2 p q = record {
-  answer = p .answer ∙ sym (q .answer);
-  out-same = p .out-after ∙ sym (q .out-after);
-  wide-same = p .wide-after ∙ sym (q .wide-after);
-  narrow-same = p .narrow-after ∙ sym (q .narrow-after);
-}

@@ -5,18 +5,16 @@ use native.Mathlib.Numerals.{lt-of-le-of-ne}
 use native.Mathlib.Omega.{arith}
 use mathlib.Core.Path.{_≡_, sym, ap, ap₂, _∙_, subst}
 use mathlib.Core.List.{List, _++_, flatMap, append-assoc}
-use lib.ListN.{length, getD, set, take, drop, length-append, length-drop}
-use lib.Seq.{getD-set-same, getD-set-other, length-take-le}
+use lib.ListN.{length, getD, set, length-append}
+use lib.Seq.{getD-set-same, getD-set-other}
 use Rattle.words.specs.Field.{bytesOf, splice}
 use Rattle.words.proofs.Laws.{length-bytesOf, splice-then}
 use Rattle.mixing.specs.Mixing.{fingerprintOf}
-use Rattle.mixing.proofs.SlotLaws.{few-buckets}
 use Rattle.layout.proofs.HeaderLaws.{header-long, start-is}
 use Rattle.records.specs.Places.{entryPlace}
 use Rattle.construct.specs.Construct.{bucketsOf, Placing}
-use Rattle.construct.specs.Answer.{placing}
 use Rattle.finish.specs.Body.{arenaStart, headerBytes, pilotsBytes, slotBytes, heldSlot, slotsBytes, bodyBytes}
-use Rattle.finish.specs.Inner.Needs.{Room, PlacesListed, listedSlot, Filled, SlotsKnown}
+use Rattle.finish.specs.Inner.Needs.{Room, placedAs, PlacesListed, listedSlot, Filled, SlotsKnown}
 use Rattle.finish.proofs.RowLaws.{flat-same, flat-long}
 
 -- ---- lengths
@@ -72,48 +70,21 @@ listed-more arena wide wide₀ n i p l len e keep so = (
     here m lm (no z) = getD-set-other wide (n + i) (n + m) p 0 (λ q. z (omega arith)) ∙ so m (lt-of-le-of-ne (omega arith) z)
 
 -- the slots by what the workspace holds are the slots of the keys
-pub slots-listed : (arena wide wide′ narrow : List ℕ) (n seed : ℕ) → PlacesListed arena n wide wide′ → SlotsKnown arena wide narrow n seed → (slots : List ℕ) → Filled n slots
+pub slots-listed : (arena wide wide′ pilots slots : List ℕ) (n seed : ℕ) → PlacesListed arena n wide wide′ → SlotsKnown arena wide pilots slots n seed
     → flatMap (listedSlot wide′ n) slots ≡ slotsBytes arena seed slots
 unfolding slotsBytes listedSlot heldSlot
-slots-listed arena wide wide′ narrow n seed L W slots F = flat-same (listedSlot wide′ n) (heldSlot arena seed) slots same
+slots-listed arena wide wide′ pilots slots n seed L W = flat-same (listedSlot wide′ n) (heldSlot arena seed) slots same
   where
     same : (s : ℕ) → s < length slots → listedSlot wide′ n (getD slots s 0) ≡ heldSlot arena seed (getD slots s 0)
     same s l =
         let m = getD slots s 0 - 1 in
-        let low : m < n = omega (arith, F .filled s l, F .keys s l) in
+        let low : m < n = omega (arith, W .slots-filled .filled s l, W .slots-filled .keys s l) in
         ap₂ slotBytes (L .places m low) (ap fingerprintOf (L .hashes m low ∙ W .hashes m low))
 
--- ---- parts of the words of 32 bits
-
-pub part-long : (words : List ℕ) (from size to : ℕ) → to ≡ from + size → to ≤ length words → length (take (to - from) (drop from words)) ≡ size
-part-long words from size to e h = length-take-le (to - from) (drop from words) (simp length-drop (omega arith)) ∙ omega arith
-
-module _ (narrow : List ℕ) (n b : ℕ) (e : b ≡ bucketsOf n) where
-  pub pilots-part : (from to : ℕ) → from ≡ b + 1 → to ≡ from + b → take (to - from) (drop from narrow) ≡ placing n (bucketsOf n) narrow .pilots
-  unfolding placing
-  pilots-part from to ef et =
-      let q : to - from ≡ b = omega arith in
-      rw (q, ef, e)
-
-  pub slots-part : (from to : ℕ) → from ≡ b + 1 + b → to ≡ from + n → take (to - from) (drop from narrow) ≡ placing n (bucketsOf n) narrow .slots
-  unfolding placing
-  slots-part from to ef et =
-      let q : to - from ≡ n = omega arith in
-      rw (q, ef, e)
-
-module _ (arena out wide narrow : List ℕ) (n : ℕ) (R : Room arena out wide narrow n) where
-  pub room-pilots : length (placing n (bucketsOf n) narrow .pilots) ≡ bucketsOf n
-  unfolding placing
-  room-pilots = length-take-le (bucketsOf n) (drop (bucketsOf n + 1) narrow) (simp length-drop (omega (arith, few-buckets n, R .words)))
-
-  pub room-slots : length (placing n (bucketsOf n) narrow .slots) ≡ n
-  unfolding placing
-  room-slots = length-take-le n (drop (bucketsOf n + 1 + bucketsOf n) narrow) (simp length-drop (omega (arith, few-buckets n, R .words)))
-
-  -- the room before the arena, by the number of buckets
-  pub room-start : (b : ℕ) → b ≡ bucketsOf n → 32 + 4 * b + 12 * n + length arena ≤ length out
-  unfolding arenaStart
-  room-start b e = omega (arith, R .room)
+-- the room before the arena, by the number of pilots
+pub room-start : (arena out wide pilots slots : List ℕ) (n seed : ℕ) → Room arena out wide n → SlotsKnown arena wide pilots slots n seed → 32 + 4 * length pilots + 12 * n + length arena ≤ length out
+unfolding arenaStart
+room-start arena out wide pilots slots n seed R W = omega (arith, R .room, W .pilots-long)
 
 -- ---- header and pilots, and the whole body
 
@@ -122,32 +93,27 @@ front-written o0 o1 o2 n seed pilots h e1 e2 =
     let l = header-long seed n in
     e2 ∙ ap (λ (z : List ℕ). splice z 32 (pilotsBytes pilots)) e1 ∙ splice-then o0 0 (headerBytes seed n) 32 (pilotsBytes pilots) (omega arith) (omega arith)
 
-pub body-written : (arena o0 o1 o2 o3 wide wide′ narrow : List ℕ) (n seed b start : ℕ) (pilots slots : List ℕ) → Room arena o0 wide narrow n → SlotsKnown arena wide narrow n seed → PlacesListed arena n wide wide′ → b ≡ bucketsOf n → start ≡ arenaStart n
-    → pilots ≡ placing n (bucketsOf n) narrow .pilots → slots ≡ placing n (bucketsOf n) narrow .slots
-    → o1 ≡ splice o0 0 (headerBytes seed n ++ pilotsBytes pilots) → o2 ≡ splice o1 (32 + 4 * b) (flatMap (listedSlot wide′ (length slots)) slots) → o3 ≡ splice o2 start arena
-    → o3 ≡ splice o0 0 (bodyBytes arena n seed (placing n (bucketsOf n) narrow))
+pub body-written : (arena o0 o1 o2 o3 wide wide′ pilots slots : List ℕ) (n seed start : ℕ) → Room arena o0 wide n → SlotsKnown arena wide pilots slots n seed → PlacesListed arena n wide wide′ → start ≡ arenaStart n
+    → o1 ≡ splice o0 0 (headerBytes seed n ++ pilotsBytes pilots) → o2 ≡ splice o1 (32 + 4 * length pilots) (flatMap (listedSlot wide′ (length slots)) slots) → o3 ≡ splice o2 start arena
+    → o3 ≡ splice o0 0 (bodyBytes arena n seed (placedAs pilots slots))
 unfolding bodyBytes
-body-written arena o0 o1 o2 o3 wide wide′ narrow n seed b start pilots slots R W L eb es ep eq e1 e2 e3 =
-    let P = placing n (bucketsOf n) narrow .pilots in
-    let S = placing n (bucketsOf n) narrow .slots in
-    let front = headerBytes seed n ++ pilotsBytes P in
-    let body = slotsBytes arena seed S in
-    let lp = room-pilots arena o0 wide narrow n R in
-    let ls = room-slots arena o0 wide narrow n R in
-    let lf : length front ≡ 32 + 4 * b = simp (length-append, header-long, pilots-long) (omega arith) in
-    let lb : length (front ++ body) ≡ 32 + 4 * b + 12 * n = length-append front body ∙ omega (arith, slots-long arena seed S) in
-    let room = room-start arena o0 wide narrow n R b eb in
-    let st : start ≡ 32 + 4 * b + 12 * n = es ∙ start-is n b eb in
-    let q1 : o1 ≡ splice o0 0 front = e1 ∙ ap (λ (z : List ℕ). splice o0 0 (headerBytes seed n ++ pilotsBytes z)) ep in
-    let listed : flatMap (listedSlot wide′ (length slots)) slots ≡ body = ap (λ (z : List ℕ). flatMap (listedSlot wide′ (length z)) z) eq ∙ ap (λ (x : ℕ). flatMap (listedSlot wide′ x) S) ls ∙ slots-listed arena wide wide′ narrow n seed L W S (W .slots) in
-    let q2 : o2 ≡ splice o0 0 (front ++ body) = e2 ∙ ap (splice o1 (32 + 4 * b)) listed ∙ ap (λ (z : List ℕ). splice z (32 + 4 * b) body) q1 ∙ splice-then o0 0 front (32 + 4 * b) body (omega arith) (omega arith) in
+body-written arena o0 o1 o2 o3 wide wide′ pilots slots n seed start R W L es e1 e2 e3 =
+    let b = length pilots in
+    let front = headerBytes seed n ++ pilotsBytes pilots in
+    let body = slotsBytes arena seed slots in
+    let ls = W .slots-long in
+    let lf : length front ≡ 32 + 4 * b = simp (length-append, header-long, pilots-long) in
+    let lb : length (front ++ body) ≡ 32 + 4 * b + 12 * n = length-append front body ∙ omega (arith, slots-long arena seed slots) in
+    let room = room-start arena o0 wide pilots slots n seed R W in
+    let st : start ≡ 32 + 4 * b + 12 * n = es ∙ start-is n b (W .pilots-long) in
+    let listed : flatMap (listedSlot wide′ (length slots)) slots ≡ body = ap (λ (x : ℕ). flatMap (listedSlot wide′ x) slots) ls ∙ slots-listed arena wide wide′ pilots slots n seed L W in
+    let q2 : o2 ≡ splice o0 0 (front ++ body) = e2 ∙ ap (splice o1 (32 + 4 * b)) listed ∙ ap (λ (z : List ℕ). splice z (32 + 4 * b) body) e1 ∙ splice-then o0 0 front (32 + 4 * b) body (omega arith) (omega arith) in
     e3 ∙ ap (λ (z : List ℕ). splice z start arena) q2 ∙ splice-then o0 0 (front ++ body) start arena (omega arith) (omega arith) ∙ ap (splice o0 0) (simp append-assoc)
 
--- what the writing of the slots asks, of the parts of what is lent
-pub slots-asked : (arena out wide narrow : List ℕ) (n seed b : ℕ) (wide′ out′ : List ℕ) → Room arena out wide narrow n → SlotsKnown arena wide narrow n seed → b ≡ bucketsOf n → length wide′ ≡ length wide → length out′ ≡ length out → (slots : List ℕ) → slots ≡ placing n (bucketsOf n) narrow .slots
-    → Filled (length slots) slots × (length wide′ ≡ length slots + length slots) × (32 + 4 * b + 12 * length slots ≤ length out′)
-slots-asked arena out wide narrow n seed b wide′ out′ R W eb eh eo slots es =
-    let l : length slots ≡ n = ap length es ∙ room-slots arena out wide narrow n R in
-    let room = room-start arena out wide narrow n R b eb in
-    let long = R .long in
-    (subst (λ (z : List ℕ). Filled (length z) z) (sym es) (subst (λ (x : ℕ). Filled x (placing n (bucketsOf n) narrow .slots)) (sym (room-slots arena out wide narrow n R)) (W .slots)), omega arith, omega arith)
+-- what the writing of the slots asks
+pub slots-asked : (arena out wide pilots slots wide′ out′ : List ℕ) (n seed : ℕ) → Room arena out wide n → SlotsKnown arena wide pilots slots n seed → length wide′ ≡ length wide → length out′ ≡ length out
+    → Filled (length slots) slots × (length wide′ ≡ length slots + length slots) × (32 + 4 * length pilots + 12 * length slots ≤ length out′)
+slots-asked arena out wide pilots slots wide′ out′ n seed R W eh eo =
+    let l = W .slots-long in
+    let room = room-start arena out wide pilots slots n seed R W in
+    (subst (λ (x : ℕ). Filled x slots) (sym l) (W .slots-filled), omega (arith, R .long), omega arith)

@@ -1,20 +1,21 @@
 -- Finish by its parts: the refusal before the keys are placed and the one after, and what the workspace of a taken attempt gives. Assumes nothing.
-use Prim.Native.Nat.{ℕ, zero, suc, _+_, _≤_, _<_}
+use Prim.Native.Nat.{ℕ, zero, suc, _+_, _*_, _≤_, _<_}
 use native.Mathlib.Nat.{zero-lt-suc}
 use native.Mathlib.Omega.{arith}
 use native.Mathlib.Decide.{ℕ-discrete}
 use native.Mathlib.Numerals.{lt-of-le-of-ne}
 use mathlib.Core.Path.{_≡_, refl, sym, ap, ap₂, _∙_, subst}
-use mathlib.Core.Bool.{Bool, true, false, cond}
+use mathlib.Core.Bool.{Bool, false, cond}
 use mathlib.Core.List.{List, [], _∷_, _++_}
 use mathlib.Core.Option.{Option, none, some}
-use lib.ListN.{length, getD, take, replicate, List·getD-append}
+use lib.ListN.{length, getD, take, drop, length-drop, replicate, List·getD-append}
 use lib.Seq.{getD-take, getD-at, length-take-le}
 use lib.Dec.{eqb}
 use borrow.Author.Tests.{ne-eqb}
-use Rattle.laws.specs.Refusals.{Cause, firstOf, orElse, Numbered}
+use Rattle.laws.specs.Refusals.{orElse, Numbered}
 use Rattle.laws.specs.Refusals.Numbered.{numbered-none, numbered-more}
 use Rattle.laws.proofs.RefusalLaws.{orElse-stop}
+use Rattle.layout.proofs.HeaderLaws.{first-append}
 use Rattle.words.specs.Field.{splice}
 use Rattle.mixing.specs.Mixing.{hashOf, seedOf}
 use Rattle.mixing.proofs.SlotLaws.{few-buckets}
@@ -27,7 +28,7 @@ use Rattle.records.specs.Rules.{unslotted}
 use Rattle.records.specs.Walk.{walkFrom}
 use Rattle.records.proofs.PassedLaws.{walk-ends}
 use Rattle.construct.specs.Inner.Layout.{Lent}
-use Rattle.construct.specs.Answer.{placing, constructedOf, ConstructPost}
+use Rattle.construct.specs.Answer.{constructedOf, pilotsFrom, slotsFrom, pilotsIn, slotsIn, placing, ConstructPost}
 use Rattle.construct.specs.declared.Constructed.{Constructed}
 use Rattle.construct.specs.declared.Constructed.the-variants.{Placed, Exhausted}
 use Rattle.construct.proofs.KeysLaws.{hashes-long}
@@ -35,20 +36,11 @@ use Rattle.finish.specs.declared.Finished.{Finished}
 use Rattle.finish.specs.declared.Finished.the-variants.{Body, Refused}
 use Rattle.finish.specs.Body.{arenaStart, bodyBytes, placedOf, bodyFrom, bodyOf}
 use Rattle.finish.specs.Finish.{walkedCauses, placingCauses, walkedRefusal, mismatch, placingRefusal, lengthsRefusal, keysOf, walked, finishRefusal, answered, bodyLength, finishOf, outAfter, spaceAfter, FinishPost}
-use Rattle.finish.specs.Inner.Needs.{Room, AttemptTaken, BodyPost, SlotsKnown, Filled}
+use Rattle.finish.specs.Inner.Needs.{Room, placedAs, AttemptTaken, BodyPost, SlotsKnown, Filled}
 use Rattle.finish.proofs.LengthLaws.{Lengths, lengths}
 use Rattle.finish.proofs.CheckLaws.{all-filled}
 
 -- ---- the refusals in a row
-
--- the first of two rows
-first-append : (cs ds : List Cause) → Numbered cs → firstOf (cs ++ ds) ≡ orElse (firstOf cs) (firstOf ds)
-first-append [] ds numbered-none = refl
-first-append (c ∷ cs) ds (numbered-more p r) = go (c .holds) (first-append cs ds r)
-  where
-    go : (t : Bool) → firstOf (cs ++ ds) ≡ orElse (firstOf cs) (firstOf ds) → cond t (c .number) (firstOf (cs ++ ds)) ≡ orElse (cond t (c .number) (firstOf cs)) (firstOf ds)
-    go true e = sym (orElse-stop (c .number) (firstOf ds) (λ z. omega arith))
-    go false e = e
 
 numbered-lengths : (size end n out wide narrow : ℕ) → Numbered (walkedCauses size end n out wide narrow)
 numbered-lengths size end n out wide narrow =
@@ -77,15 +69,13 @@ answered-refused (suc r) size h = refl
 
 -- ---- the room for the keys
 
-pub room-lent : (arena out wide narrow : List ℕ) (n : ℕ) → Room arena out wide narrow n → Lent arena wide narrow n
-room-lent arena out wide narrow n R =
+pub room-lent : (arena out wide narrow : List ℕ) (n : ℕ) → Room arena out wide n → 8 * n + 8 ≤ length narrow → Lent arena wide narrow n
+room-lent arena out wide narrow n R words =
     let most = R .most in
-    record { any = R .any; most = omega arith; entries = R .entries; long = R .long; room = omega (arith, few-buckets n, R .words) }
+    record { any = R .any; most = omega arith; entries = R .entries; long = R .long; room = omega (arith, few-buckets n) }
 
-pub room-kept : (arena out wide narrow wide′ narrow′ : List ℕ) (n : ℕ) → Room arena out wide narrow n → length wide′ ≡ length wide → length narrow′ ≡ length narrow → Room arena out wide′ narrow′ n
-room-kept arena out wide narrow wide′ narrow′ n R eh ew =
-    let u = R .words in
-    record { any = R .any; most = R .most; entries = R .entries; long = eh ∙ R .long; words = omega arith; room = R .room }
+pub room-kept : (arena out wide wide′ : List ℕ) (n : ℕ) → Room arena out wide n → length wide′ ≡ length wide → Room arena out wide′ n
+room-kept arena out wide wide′ n R e = record { any = R .any; most = R .most; entries = R .entries; long = e ∙ R .long; room = R .room }
 
 -- ---- what construct left
 
@@ -98,16 +88,19 @@ module _ (arena wide narrow : List ℕ) (n : ℕ) where
       go none e = refl
       go (some (i, pl)) e = absurd (let z : _≡_ {A = ℕ} 0 1 = cc in omega arith)
 
-  pub chosen : (i : ℕ) (r : Constructed) → r ≡ Placed i → ConstructPost (attemptHashes arena n) n wide narrow r → AttemptTaken arena wide narrow n i
-  unfolding placedOf
-  chosen i r er B = go (constructOf (attemptHashes arena n)) refl (sym er ∙ B .answer)
+  pub chosen : (i b : ℕ) (pilots slots : List ℕ) (r : Constructed) → r ≡ Placed i → ConstructPost (attemptHashes arena n) n wide narrow r → slotsFrom b + n ≤ length narrow
+      → b ≡ bucketsOf n → pilots ≡ pilotsIn b narrow → slots ≡ slotsIn n b narrow → AttemptTaken arena wide pilots slots n i
+  unfolding placedOf placing
+  chosen i b pilots slots r er B room eb ep es = go (constructOf (attemptHashes arena n)) refl (sym er ∙ B .answer)
     where
-      go : (o : Option (ℕ × Placing)) → constructOf (attemptHashes arena n) ≡ o → Placed i ≡ constructedOf o → AttemptTaken arena wide narrow n i
+      go : (o : Option (ℕ × Placing)) → constructOf (attemptHashes arena n) ≡ o → Placed i ≡ constructedOf o → AttemptTaken arena wide pilots slots n i
       go none e q = absurd (let z : _≡_ {A = ℕ} 0 1 = cc in omega arith)
       go (some (j, pl)) e q =
           let ij : i ≡ j = cc in
           record {
-            taken = e ∙ ap₂ (λ (x : ℕ) (y : Placing). some (x, y)) (sym ij) (sym (B .placed j pl e));
+            pilots-long = ap length ep ∙ length-take-le b (drop (pilotsFrom b) narrow) (simp length-drop (omega arith)) ∙ eb;
+            slots-long = ap length es ∙ length-take-le n (drop (slotsFrom b) narrow) (simp length-drop (omega arith));
+            taken = e ∙ ap₂ (λ (x : ℕ) (y : Placing). some (x, y)) (sym ij) (sym (B .placed j pl e)) ∙ rw (ep, es, eb);
             hashes = B .kept j pl e ∙ ap (attemptHashes arena n) (sym ij);
           }
 
@@ -123,30 +116,24 @@ hash-at seed arena (suc n) m l = go (ℕ-discrete m n) (λ lt. hash-at seed aren
         let lt : m < n = lt-of-le-of-ne (omega arith) e in
         List·getD-append (hashesOf seed arena n) (hashOf seed (arenaKey arena n) ∷ []) 0 m (omega (arith, hashes-long seed arena n)) ∙ rest lt
 
-module _ (arena wide narrow : List ℕ) (n i : ℕ) (C : AttemptTaken arena wide narrow n i) where
+module _ (arena wide pilots slots : List ℕ) (n i : ℕ) (C : AttemptTaken arena wide pilots slots n i) where
   -- 11 by the self-check of what was left
-  pub chosen-refusal : (pilots slots : List ℕ) (t : Bool) → pilots ≡ placing n (bucketsOf n) narrow .pilots → slots ≡ placing n (bucketsOf n) narrow .slots → mismatch (take n wide) pilots slots ≡ t → placingRefusal arena n ≡ cond t 11 0
+  pub chosen-refusal : (t : Bool) → mismatch (take n wide) pilots slots ≡ t → placingRefusal arena n ≡ cond t 11 0
   unfolding placingRefusal
-  chosen-refusal pilots slots t ep es e =
-      let q : mismatch (attemptHashes arena n i) (placing n (bucketsOf n) narrow .pilots) (placing n (bucketsOf n) narrow .slots) ≡ t =
-      ap (λ (z : List ℕ). mismatch z (placing n (bucketsOf n) narrow .pilots) (placing n (bucketsOf n) narrow .slots)) (sym (C .hashes))
-      ∙ ap (λ (z : List ℕ). mismatch (take n wide) z (placing n (bucketsOf n) narrow .slots)) (sym ep)
-      ∙ ap (mismatch (take n wide) pilots) (sym es) ∙ e in
-      rw (C .taken, q)
+  chosen-refusal t e = rw (C .taken, ← (C .hashes), e)
 
-  chosen-body : bodyOf arena n ≡ bodyBytes arena n (seedOf i) (placing n (bucketsOf n) narrow)
+  pub chosen-out : (out out′ : List ℕ) (seed : ℕ) → seed ≡ seedOf i → out′ ≡ splice out 0 (bodyBytes arena n seed (placedAs pilots slots)) → out′ ≡ splice out 0 (bodyOf arena n)
   unfolding bodyOf
-  chosen-body = ap (bodyFrom arena n) (C .taken)
-
-  pub chosen-out : (out out′ : List ℕ) (seed : ℕ) → seed ≡ seedOf i → out′ ≡ splice out 0 (bodyBytes arena n seed (placing n (bucketsOf n) narrow)) → out′ ≡ splice out 0 (bodyOf arena n)
-  chosen-out out out′ seed es q = q ∙ ap (λ (x : ℕ). splice out 0 (bodyBytes arena n x (placing n (bucketsOf n) narrow))) es ∙ ap (splice out 0) (sym chosen-body)
+  chosen-out out out′ seed es q = q ∙ ap (λ (x : ℕ). splice out 0 (bodyBytes arena n x (placedAs pilots slots))) es ∙ sym (ap (λ (o : Option (ℕ × Placing)). splice out 0 (bodyFrom arena n o)) (C .taken))
 
   -- the hashes, and that every slot holds a key where the self-check passes
-  pub chosen-written : (seed : ℕ) (pilots slots : List ℕ) → seed ≡ seedOf i → slots ≡ placing n (bucketsOf n) narrow .slots → length (placing n (bucketsOf n) narrow .slots) ≡ n → mismatch (take n wide) pilots slots ≡ false → SlotsKnown arena wide narrow n seed
+  pub chosen-written : (seed : ℕ) → seed ≡ seedOf i → mismatch (take n wide) pilots slots ≡ false → SlotsKnown arena wide pilots slots n seed
   unfolding attemptHashes
-  chosen-written seed pilots slots es eq l e = record {
+  chosen-written seed es e = record {
+    pilots-long = C .pilots-long;
+    slots-long = C .slots-long;
     hashes = λ m lm. sym (getD-take n wide m 0 lm) ∙ ap (λ (z : List ℕ). getD z m 0) (C .hashes) ∙ hash-at (seedOf i) arena n m lm ∙ ap (λ (x : ℕ). hashOf x (arenaKey arena m)) (sym es);
-    slots = subst (λ (z : List ℕ). Filled n z) eq (subst (λ (x : ℕ). Filled x slots) (ap length eq ∙ l) (all-filled (take n wide) pilots slots e));
+    slots-filled = subst (λ (x : ℕ). Filled x slots) (C .slots-long) (all-filled (take n wide) pilots slots e);
   }
 
 -- ---- what was built
@@ -197,15 +184,17 @@ module _ (arena out wide narrow : List ℕ) (k : Walked) (ek : k ≡ walkFrom un
         let e : k .end ≡ entryPlace arena 0 (k .keys) = ap (λ (x : Walked). x .end) ek ∙ walk-ends unslotted arena Untested 0 0 (length arena) ∙ ap (λ (x : Walked). entryPlace arena 0 (x .keys)) (sym ek) in
         omega (arith, e, length-facts .whole)
 
-    pub post-room : Room arena out (take (k .keys + k .keys) wide) narrow (k .keys)
-    post-room = record {
-      any = length-facts .some;
-      most = length-facts .few;
-      entries = walk-inside;
-      long = space-long;
-      words = length-facts .narrow-long;
-      room = length-facts .room;
-    }
+    pub post-room : Room arena out (take (k .keys + k .keys) wide) (k .keys) × (8 * k .keys + 8 ≤ length narrow)
+    post-room = (
+      record {
+        any = length-facts .some;
+        most = length-facts .few;
+        entries = walk-inside;
+        long = space-long;
+        room = length-facts .room;
+      },
+      length-facts .narrow-long,
+    )
 
     -- the keys placed or not: the output as that leaves it, the workspace zero
     pub post-late : (r : Finished) (out′ wide′ narrow′ : List ℕ) → BodyPost arena out (k .keys) r out′ → wide′ ≡ replicate (length wide) 0 → narrow′ ≡ replicate (length narrow) 0 → FinishPost arena out wide narrow r out′ wide′ narrow′

@@ -111,13 +111,6 @@ pub record FinishPost (arena out wide narrow : List ℕ) (r : Finished) (out' wi
   pub wide-after : wide' ≡ spaceAfter (lengthsRefusal arena (length out) (length wide) (length narrow)) wide
   pub narrow-after : narrow' ≡ spaceAfter (lengthsRefusal arena (length out) (length wide) (length narrow)) narrow
 
--- two results that meet the contract are the same
-pub record SameResult (r s : Finished) (out out' wide wide' narrow narrow' : List ℕ) : Type 0 where
-  pub answer : r ≡ s
-  pub out-same : out ≡ out'
-  pub wide-same : wide ≡ wide'
-  pub narrow-same : narrow ≡ narrow'
-
 -- the paper's number of an answer, 0 for a body, and the body's length
 abbrev pub finishedNumber : Finished → ℕ
 finishedNumber (Body size) = 0

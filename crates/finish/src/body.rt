@@ -2,7 +2,6 @@
 use layout::Header;
 use layout::arena_start;
 use layout::put_header;
-use mixing::slot::buckets;
 use records::cursor;
 use words::field;
 use words::part;
@@ -12,11 +11,9 @@ ghost use Prim.Native.Nat.{_+_, _*_, _≤_};
 ghost use lib.ListN.{length};
 ghost use Rattle.numbers.specs.Limits.{mostKeys};
 ghost use Rattle.words.specs.Field.{splice};
-ghost use Rattle.construct.specs.Construct.{bucketsOf};
 ghost use Rattle.construct.specs.Inner.Layout.{Entries};
-ghost use Rattle.construct.specs.Answer.{placing};
 ghost use Rattle.finish.specs.Body.{headerBytes, pilotsBytes, slotBytes, bodyBytes};
-ghost use Rattle.finish.specs.Inner.Needs.{Room, PlacesListed, listedSlot, Filled, SlotsKnown};
+ghost use Rattle.finish.specs.Inner.Needs.{Room, placedAs, PlacesListed, listedSlot, Filled, SlotsKnown};
 
 // Writes the pilots from `at`.
 fn write_pilots(out: &mut [u8], at: usize, pilots: &[u32])
@@ -87,24 +84,21 @@ pub fn write_body(
     arena: &[u8],
     out: &mut [u8],
     wide: &mut [u64],
-    narrow: &[u32],
+    pilots: &[u32],
+    slots: &[u32],
     n: usize,
     seed: u64,
 )
-    requires { ⌜ Room (now arena) (now out) (now wide) (now narrow) n × SlotsKnown (now arena) (now wide) (now narrow) n seed ⌝ }
-    ensures { λ _. ⌜ now (out .exit) ≡ splice (now (out .entry)) 0 (bodyBytes (now (arena .entry)) n seed (placing n (bucketsOf n) (now (narrow .entry)))) ⌝ }
+    requires { ⌜ Room (now arena) (now out) (now wide) n × SlotsKnown (now arena) (now wide) (now pilots) (now slots) n seed ⌝ }
+    ensures { λ _. ⌜ now (out .exit) ≡ splice (now (out .entry)) 0 (bodyBytes (now (arena .entry)) n seed (placedAs (now (pilots .entry)) (now (slots .entry)))) ⌝ }
 {
-    let b = buckets(n);
-    let pilots = b + 1;
-    let slots = pilots + b;
-    let end = slots + n;
     list_places(arena, wide, n);
-    write_front(out, n, seed, &narrow[pilots..slots]);
+    write_front(out, n, seed, pilots);
     write_slots(
         out,
-        Header::BYTES + Header::PILOT * b,
+        Header::BYTES + Header::PILOT * pilots.len(),
         wide,
-        &narrow[slots..end],
+        slots,
     );
     part::copy_at(out, arena_start(n), arena);
 }

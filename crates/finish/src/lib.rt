@@ -3,6 +3,7 @@ mod body;
 mod check;
 
 use construct::Constructed;
+use construct::places;
 use layout::arena_start;
 use mixing::slot::buckets;
 use numbers::Refusal;
@@ -11,6 +12,8 @@ use records::DataLength;
 use records::walk::walk;
 use words::part;
 ghost use mathlib.Core.Path.{_≡_};
+ghost use Prim.Native.Nat.{_+_, _*_, _≤_};
+ghost use lib.ListN.{length};
 ghost use Rattle.finish.specs.Finish.{walkedRefusal, FinishPost};
 ghost use Rattle.finish.specs.Inner.Needs.{Room, AttemptTaken, BodyPost};
 
@@ -53,37 +56,45 @@ fn length_refusal(size: usize, end: usize, n: usize, out: usize, wide: usize, na
     0
 }
 
-// Checks the attempt that was taken, and writes the body.
+// Checks the attempt that was taken, by its pilots and its slots, and writes the body.
 fn checked(
     arena: &[u8],
     out: &mut [u8],
     wide: &mut [u64],
-    narrow: &[u32],
+    pilots: &[u32],
+    slots: &[u32],
     n: usize,
     i: u64,
 ) -> Finished
-    requires { ⌜ Room (now arena) (now out) (now wide) (now narrow) n × AttemptTaken (now arena) (now wide) (now narrow) n i ⌝ }
+    requires { ⌜ Room (now arena) (now out) (now wide) n × AttemptTaken (now arena) (now wide) (now pilots) (now slots) n i ⌝ }
     ensures { λ r. ⌜ BodyPost (now (arena .entry)) (now (out .entry)) n r (now (out .exit)) ⌝ }
 {
-    let b = buckets(n);
-    let pilots = b + 1;
-    let slots = pilots + b;
-    let end = slots + n;
-    if check::mismatch(&wide[..n], &narrow[pilots..slots], &narrow[slots..end]) {
+    if check::mismatch(&wide[..n], pilots, slots) {
         return Finished::Refused(Refusal::SELF_CHECK);
     }
-    body::write_body(arena, out, wide, narrow, n, mixing::seed(i));
+    body::write_body(arena, out, wide, pilots, slots, n, mixing::seed(i));
     Finished::Body(arena_start(n) + arena.len())
 }
 
 // Places the n keys, and writes the body where that succeeds.
 fn build(arena: &[u8], out: &mut [u8], wide: &mut [u64], narrow: &mut [u32], n: usize) -> Finished
-    requires { ⌜ Room (now arena) (now out) (now wide) (now narrow) n ⌝ }
+    requires { ⌜ Room (now arena) (now out) (now wide) n × (8 * n + 8 ≤ length (now narrow)) ⌝ }
     ensures { λ r. ⌜ BodyPost (now (arena .entry)) (now (out .entry)) n r (now (out .exit)) ⌝ }
 {
     let c = construct::construct(arena, wide, narrow, n);
     match c {
-        Constructed::Placed(i) => checked(arena, out, wide, narrow, n, i),
+        Constructed::Placed(i) => {
+            let b = buckets(n);
+            checked(
+                arena,
+                out,
+                wide,
+                places::pilots(narrow, b),
+                places::slots(narrow, n, b),
+                n,
+                i,
+            )
+        }
         Constructed::Exhausted => Finished::Refused(Refusal::ATTEMPTS),
     }
 }

@@ -3,6 +3,7 @@ ghost use mathlib.Core.Path.{_≡_};
 ghost use Prim.Native.Nat.{_+_, _*_, _≤_};
 ghost use lib.ListN.{length};
 use finish::Finished;
+use numbers::Refusal;
 use vectors::Count;
 use vectors::space;
 use words::field;
@@ -58,7 +59,7 @@ fn left(number: u8) -> u8 {
     if number == 0 {
         return 0;
     }
-    if 10 <= number {
+    if Refusal::ATTEMPTS <= number {
         return 0;
     }
     space::DIRTY

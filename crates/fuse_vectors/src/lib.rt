@@ -5,6 +5,7 @@ use filter::Asked;
 use filter::SstFilter;
 use fuse::Sizes;
 use fuse::header;
+use numbers::Refusal;
 use sizing::Plan;
 use vectors::Count;
 
@@ -84,7 +85,7 @@ fn read_number(bytes: &[u8]) -> u8 {
     match filter::read(bytes) {
         SstFilter::Positive => 0,
         SstFilter::Fuse(_) => 0,
-        SstFilter::Refused => 15,
+        SstFilter::Refused => Refusal::FILTER,
     }
 }
 
@@ -93,7 +94,7 @@ fn ask_number(bytes: &[u8], hash: u64) -> u8 {
     match filter::ask(bytes, hash) {
         Asked::Absent => 0,
         Asked::Maybe => 1,
-        Asked::Refused => 15,
+        Asked::Refused => Refusal::FILTER,
     }
 }
 

@@ -4,8 +4,9 @@ use mathlib.Core.List.{List, [], _∷_, _++_, map}
 use Prim.Native.Nat.{ℕ, _+_, _-_, _*_, _^_, _≤_, _<_}
 use native.Mathlib.Omega.{arith}
 use lib.ListN.{length, getD, set, take, drop, replicate, length-map, List·getD-map}
-use lib.Seq.{paste, length-take-le}
+use lib.Seq.{length-take-le}
 use Rattle.words.specs.Field.{splice}
+use Rattle.words.proofs.Pasted.{Pasting, pasting-more}
 use Rattle.fuse.specs.declared.Sizes.{Sizes}
 use Rattle.fuse.specs.Positions.{cellsIn}
 use Rattle.fuse.proofs.FitLaws.{cells-some}
@@ -20,8 +21,9 @@ use Rattle.filter.proofs.ReadLaws.{fuse-accepted}
 use Rattle.filter.proofs.AskLaws.{ask-positive}
 use Rattle.filter.proofs.BuiltLaws.{built-usable}
 use Rattle.finish.proofs.RowLaws.{splice-none}
-use Rattle.kiban_c.specs.FilterCalls.{FilterBuildCall, FilterReadCall, filterAskOf, cellsAskOf, askAllValues, FilterAskAllCall}
-use Rattle.kiban_c.proofs.LentLaws.{first-number, first-left, none-number, none-left, short, enough, put-length, put-next, put-whole}
+use Rattle.kiban_c.specs.FilterCalls.{FilterBuildCall, FilterReadCall, filterAskOf, askAllValues, FilterAskAllCall}
+use Rattle.kiban_c.specs.Inner.Asking.{cellsAskOf}
+use Rattle.kiban_c.proofs.LentLaws.{first-number, first-left, none-number, none-left, short, enough}
 
 -- ---- building
 
@@ -82,19 +84,11 @@ fuse-cells bytes s e =
 
 -- ---- asking for each hash
 
-module _ (f : ℕ → ℕ) (hashes answers after : List ℕ) (i : ℕ) (l : length hashes ≤ length answers)
-    (e : after ≡ paste answers 0 (map f hashes) i) where
-  room : length (map f hashes) ≤ length answers
-  room = omega (arith, l, length-map hashes f)
-
-  pub each-length : i ≤ length hashes → length after ≡ length answers
-  each-length h = put-length answers (map f hashes) after i room e (omega (arith, h, length-map hashes f))
-
-  pub each-next : (v : ℕ) → i < length hashes → v ≡ f (getD hashes i 0) → set after i v ≡ paste answers 0 (map f hashes) (i + 1)
-  each-next v h p = put-next answers (map f hashes) after i room e (f 0) v (omega (arith, h, length-map hashes f)) (p ∙ sym (List·getD-map f hashes i 0))
-
-  pub each-whole : i ≡ length hashes → after ≡ splice answers 0 (map f hashes)
-  each-whole h = put-whole answers (map f hashes) after i room e (h ∙ sym (length-map hashes f))
+-- an answer more
+pub each-more : (f : ℕ → ℕ) (hashes : List ℕ) {answers : List ℕ} {i : ℕ} {after : List ℕ} → Pasting answers 0 (map f hashes) i after
+    → (v : ℕ) → i < length hashes → v ≡ f (getD hashes i 0) → Pasting answers 0 (map f hashes) (i + 1) (set after i v)
+each-more f hashes {answers} {i} p v h e =
+    pasting-more p (f 0) i v (omega (arith, h, length-map hashes f)) (omega arith) (e ∙ sym (List·getD-map f hashes i 0))
 
 -- ---- asking for all
 

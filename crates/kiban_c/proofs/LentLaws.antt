@@ -1,17 +1,13 @@
--- A check of the boundary that is the first to hold decides the call; where none holds the call's own answer stands. What stands in front
--- of a lent list while values are put there. Assumes nothing.
-use Prim.Native.Nat.{ℕ, zero, suc, _+_, _<_, _≤_}
-use native.Mathlib.Numerals.{add-one}
+-- A check of the boundary that is the first to hold decides the call; where none holds the call's own answer stands. Assumes
+-- nothing.
+use Prim.Native.Nat.{ℕ, zero, suc, _<_, _≤_}
 use native.Mathlib.Omega.{arith}
-use mathlib.Core.Path.{_≡_, refl, sym, ap, ap₂, _∙_}
+use mathlib.Core.Path.{_≡_, refl, sym, ap, _∙_}
 use mathlib.Core.List.{List, [], _∷_}
 use borrow.Author.Tests.{lt-ltb, le-ltb, ne-eqb}
-use lib.ListN.{length, getD, set}
-use lib.Seq.{paste, paste-suc, length-paste}
+use lib.ListN.{length}
 use Rattle.laws.specs.Refusals.{Cause, orElse, First, here, None, none-here, none-more}
 use Rattle.laws.proofs.RefusalLaws.{first-given, none-given}
-use Rattle.words.specs.Field.{splice}
-use Rattle.words.proofs.Laws.{splice-paste}
 use Rattle.kiban_c.specs.Lent.{answerShort, numberBy, leftBy}
 
 or-else : (n own : ℕ) → 0 < n → n ≡ orElse n own
@@ -43,19 +39,3 @@ module _ (answer : List ℕ) (said : ℕ) where
 
   pub enough : said ≤ length answer → None (answerShort answer said ∷ [])
   enough h = none-more (le-ltb (length answer) said h) none-here
-
--- ---- values put one by one
-
-module _ (lent values after : List ℕ) (i : ℕ) (l : length values ≤ length lent) (e : after ≡ paste lent 0 values i) where
-  pub put-length : i ≤ length values → length after ≡ length lent
-  put-length h = ap length e ∙ length-paste lent 0 values i (omega (arith, l, h)) (omega (arith, h))
-
-  pub put-next : (d v : ℕ) → i < length values → v ≡ getD values i d → set after i v ≡ paste lent 0 values (i + 1)
-  put-next d v h p =
-      let z : i ≡ 0 + i = omega arith in
-      rw add-one
-      (ap₂ (λ (t : List ℕ) (x : ℕ). set t i x) e p
-      ∙ ap (λ (j : ℕ). set (paste lent 0 values i) j (getD values i d)) z ∙ paste-suc lent 0 values i d (omega (arith, l, h)) (omega (arith, h)))
-
-  pub put-whole : i ≡ length values → after ≡ splice lent 0 values
-  put-whole h = e ∙ ap (paste lent 0 values) h ∙ splice-paste lent 0 values

@@ -4,5 +4,4 @@ pub mod FinishCallLaws
 pub mod PointCallLaws
 pub mod FilterCallLaws
 pub mod LinesCallLaws
-pub mod UniqueLaws
 pub mod ExactLaws

@@ -5,13 +5,12 @@ use mathlib.Core.List.{List, [], _∷_, map}
 use lib.ListN.{length}
 use Rattle.laws.specs.Refusals.{Cause}
 use Rattle.words.specs.Field.{splice}
-use Rattle.fuse.specs.declared.Sizes.{Sizes}
 use Rattle.sort.specs.Sort.{sorted}
 use Rattle.filter.specs.declared.SstFilter.{SstFilter}
 use Rattle.filter.specs.declared.SstFilter.the-variants as read
 use Rattle.filter.specs.declared.Built.{Built}
 use Rattle.filter.specs.Reading.{readOf, readRefusal, readValues}
-use Rattle.filter.specs.Asking.{askCellsOf, askOf, askNumber}
+use Rattle.filter.specs.Asking.{askOf, askNumber}
 use Rattle.filter.specs.Building.{buildOf, builtRefusal, builtValues, hashesBy, spaceBy, outBy}
 use Rattle.kiban_c.specs.Lent.{answerShort, numberBy, leftBy}
 
@@ -50,10 +49,6 @@ pub record FilterReadCall (bytes answer : List ℕ) (r : ℕ) (answer' : List �
 -- the number of a hash: what kiban_filter_ask returns
 abbrev pub filterAskOf : (bytes : List ℕ) (hash : ℕ) → ℕ
 filterAskOf bytes hash = askNumber (askOf bytes hash)
-
--- the same from the sizes of a Fuse filter that was read, beside its cells
-abbrev pub cellsAskOf : Sizes → (cells : List ℕ) (hash : ℕ) → ℕ
-cellsAskOf s cells hash = askNumber (askCellsOf (read.Fuse s) cells hash)
 
 -- the number of each hash, in their order; none where reading refuses
 abbrev pub askAllValues : SstFilter → (bytes hashes : List ℕ) → List ℕ

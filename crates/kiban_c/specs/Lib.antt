@@ -7,3 +7,4 @@ pub mod FinishCalls
 pub mod PointCalls
 pub mod FilterCalls
 pub mod LinesCalls
+pub mod Inner

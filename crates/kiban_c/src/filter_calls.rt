@@ -12,7 +12,8 @@ ghost use Prim.Native.Nat.{_≤_};
 ghost use lib.ListN.{length};
 ghost use Rattle.words.specs.Field.{splice};
 ghost use Rattle.filter.specs.Asking.{askNumber};
-ghost use Rattle.kiban_c.specs.FilterCalls.{FilterBuildCall, FilterReadCall, filterAskOf, cellsAskOf, FilterAskAllCall};
+ghost use Rattle.kiban_c.specs.FilterCalls.{FilterBuildCall, FilterReadCall, filterAskOf, FilterAskAllCall};
+ghost use Rattle.kiban_c.specs.Inner.Asking.{cellsAskOf};
 
 // Builds a filter of the hashes: 0, with the bytes written in front of `answer`, or the refusal; 6 first for an answer under one word.
 #[no_mangle]

@@ -3,12 +3,13 @@ use Prim.Native.Nat.{ℕ, suc, _+_, _-_, _*_, _^_, _<_, _≤_}
 use native.Mathlib.Nat.{suc-ne-zero}
 use native.Mathlib.Omega.{arith}
 use mathlib.Core.Path.{_≡_, refl, sym, ap, ap₂, _∙_}
-use mathlib.Core.List.{List, _++_, append-assoc}
+use mathlib.Core.List.{List, [], _∷_, _++_, append-assoc}
 use mathlib.Core.Bool.{Bool, true, false, not, cond}
 use lib.ListN.{length, take, length-append}
-use lib.Dec.{ltb, leb, eqb}
+use lib.Dec.{ltb, leb, eqb, lit<}
 use borrow.Author.Tests.{ltb-false, leb-false, eqb-true, eqb-false, not-false, lt-ltb, le-ltb, lt-leb, eq-eqb, ne-eqb}
-use Rattle.laws.specs.Refusals.{orElse}
+use Rattle.laws.specs.Refusals.{Cause, cause, firstOf, orElse, Numbered}
+use Rattle.laws.specs.Refusals.Numbered.{numbered-none, numbered-more}
 use Rattle.laws.proofs.RefusalLaws.{orElse-stop, orElse-zero}
 use Rattle.words.specs.Field.{le, bytesOf, splice}
 use Rattle.words.proofs.Laws.{length-bytesOf, splice-then}
@@ -18,12 +19,21 @@ use Rattle.words.specs.Part.{sameAs}
 use Rattle.mixing.specs.Mixing.{bucketOf, positionOf, positionOf-lt}
 use Rattle.mixing.specs.Slots.{bucketsOf, direct, slotBy}
 use Rattle.mixing.proofs.SlotLaws.{some-buckets, few-buckets}
-use Rattle.layout.specs.Layout.{indexMagic, seedIn, keysIn, bucketsIn, arenaIn, arenaStart, headerBytes, magicRefusal, dimensionRefusal, headerRefusal, pilotOf, slotAt, directPast, slotOf, slotPlace}
+use Rattle.layout.specs.Layout.{indexMagic, seedIn, keysIn, bucketsIn, arenaIn, arenaStart, headerBytes, magicRefusal, dimensionCauses, dimensionRefusal, headerRefusal, pilotOf, slotAt, directPast, slotOf, slotPlace}
 
 -- a test that refuses, and did not
 pub passes : (t : Bool) (r x : ℕ) → cond t (suc r) x ≡ 0 → (t ≡ false) × (x ≡ 0)
 passes true r x e = absurd (suc-ne-zero _ e)
 passes false r x e = (refl, e)
+
+-- the first of two rows of tests
+pub first-append : (cs ds : List Cause) → Numbered cs → firstOf (cs ++ ds) ≡ orElse (firstOf cs) (firstOf ds)
+first-append [] ds numbered-none = refl
+first-append (c ∷ cs) ds (numbered-more p r) = go (c .holds) (first-append cs ds r)
+  where
+    go : (t : Bool) → firstOf (cs ++ ds) ≡ orElse (firstOf cs) (firstOf ds) → cond t (c .number) (firstOf (cs ++ ds)) ≡ orElse (cond t (c .number) (firstOf cs)) (firstOf ds)
+    go true e = sym (orElse-stop (c .number) (firstOf ds) (λ z. omega arith))
+    go false e = e
 
 -- ---- 20 and 21
 
@@ -64,21 +74,10 @@ dimensions n b arena e =
       start = eqb-true _ _ (not-false _ (e4 .0));
     }
 
--- a refusal by the dimensions comes before what follows them
-dimensions-then : (n b arena x : ℕ) → cond (eqb n 0) 21 (cond (leb direct n) 21 (cond (not (eqb b (bucketsOf n))) 21 (cond (not (eqb arena (slotAt b n))) 21 x))) ≡ orElse (dimensionRefusal n b arena) x
-unfolding dimensionRefusal
-dimensions-then n b arena x = go (eqb n 0) (leb direct n) (not (eqb b (bucketsOf n))) (not (eqb arena (slotAt b n)))
-  where
-    go : (t u v w : Bool) → cond t 21 (cond u 21 (cond v 21 (cond w 21 x))) ≡ orElse (cond t 21 (cond u 21 (cond v 21 (cond w 21 0)))) x
-    go true u v w = refl
-    go false true v w = refl
-    go false false true w = refl
-    go false false false true = refl
-    go false false false false = refl
-
 header-is : (body : List ℕ) → headerRefusal body ≡ orElse (magicRefusal body) (orElse (dimensionRefusal (keysIn body) (bucketsIn body) (arenaIn body)) (cond (leb (length body) (arenaIn body)) 21 0))
-unfolding headerRefusal
-header-is body = ap (orElse (magicRefusal body)) (dimensions-then (keysIn body) (bucketsIn body) (arenaIn body) (cond (leb (length body) (arenaIn body)) 21 0))
+unfolding headerRefusal dimensionRefusal
+header-is body =
+    ap (orElse (magicRefusal body)) (first-append (dimensionCauses (keysIn body) (bucketsIn body) (arenaIn body)) (cause (leb (length body) (arenaIn body)) 21 ∷ []) (numbered-more (lit< tt) (numbered-more (lit< tt) (numbered-more (lit< tt) (numbered-more (lit< tt) numbered-none)))))
 
 -- what 20 and 21 say of a body
 pub record Headed (body : List ℕ) : Type 0 where

@@ -159,36 +159,31 @@ keys-rise rule limit (e ∷ f ∷ es) (rises-more b g) = go (shown rule limit e)
 
 -- ---- the call
 
-module _ {rule : Rule} {input before : List ℕ} where
-  -- THEOREM: two results that meet the contract coincide, buffer included
-  pub listing-one : {r s : Listed} {after later : List ℕ} → Listing rule input before r after → Listing rule input before s later → (r ≡ s) × (after ≡ later)
-  listing-one p q = (p .answer ∙ sym (q .answer), p .buffer ∙ sym (q .buffer))
+module _ {rule : Rule} {input before : List ℕ} {r : Listed} {after : List ℕ} (P : Listing rule input before r after) where
+  -- THEOREM: a number above 0 is 6, for a buffer too short, which is left
+  pub listing-cause : (n : ℕ) → 0 < n → listedNumber r ≡ n → (n ≡ 6) × (length before < length (textOf rule input)) × (after ≡ before)
+  unfolding listedOf bufferOf
+  listing-cause n h e = go (leb (length (textOf rule input)) (length before)) refl (ap listedNumber (sym (P .answer)) ∙ e)
+    where
+      go : (b : Bool) → leb (length (textOf rule input)) (length before) ≡ b → listedNumber (cond b (Text (length (textOf rule input))) (Refused 6)) ≡ n
+          → (n ≡ 6) × (length before < length (textOf rule input)) × (after ≡ before)
+      go true q f = absurd (omega arith)
+      go false q f = (sym f, leb-false _ _ q, P .buffer ∙ rw q)
 
-  module _ {r : Listed} {after : List ℕ} (P : Listing rule input before r after) where
-    -- THEOREM: a number above 0 is 6, for a buffer too short, which is left
-    pub listing-cause : (n : ℕ) → 0 < n → listedNumber r ≡ n → (n ≡ 6) × (length before < length (textOf rule input)) × (after ≡ before)
-    unfolding listedOf bufferOf
-    listing-cause n h e = go (leb (length (textOf rule input)) (length before)) refl (ap listedNumber (sym (P .answer)) ∙ e)
-      where
-        go : (b : Bool) → leb (length (textOf rule input)) (length before) ≡ b → listedNumber (cond b (Text (length (textOf rule input))) (Refused 6)) ≡ n
-            → (n ≡ 6) × (length before < length (textOf rule input)) × (after ≡ before)
-        go true q f = absurd (omega arith)
-        go false q f = (sym f, leb-false _ _ q, P .buffer ∙ rw q)
+  pub cause-listing : length before < length (textOf rule input) → listedNumber r ≡ 6
+  unfolding listedOf
+  cause-listing l = ap listedNumber (P .answer) ∙ rw (lt-leb (length (textOf rule input)) (length before) l)
 
-    pub cause-listing : length before < length (textOf rule input) → listedNumber r ≡ 6
-    unfolding listedOf
-    cause-listing l = ap listedNumber (P .answer) ∙ rw (lt-leb (length (textOf rule input)) (length before) l)
-
-    -- THEOREM: with room the number is 0 and the value the text's length, and the text stands in front
-    pub room-values : length (textOf rule input) ≤ length before
-        → (listedNumber r ≡ 0) × (listedValues r ≡ length (textOf rule input) ∷ []) × (after ≡ splice before 0 (textOf rule input))
-    unfolding listedOf bufferOf
-    room-values l =
-        let t = le-leb (length (textOf rule input)) (length before) l in
-        let a : r ≡ Text (length (textOf rule input)) = P .answer ∙ rw t in
-        (ap listedNumber a, ap listedValues a, P .buffer ∙ rw t)
+  -- THEOREM: with room the number is 0 and the value the text's length, and the text stands in front
+  pub room-values : length (textOf rule input) ≤ length before
+      → (listedNumber r ≡ 0) × (listedValues r ≡ length (textOf rule input) ∷ []) × (after ≡ splice before 0 (textOf rule input))
+  unfolding listedOf bufferOf
+  room-values l =
+      let t = le-leb (length (textOf rule input)) (length before) l in
+      let a : r ≡ Text (length (textOf rule input)) = P .answer ∙ rw t in
+      (ap listedNumber a, ap listedValues a, P .buffer ∙ rw t)
 
   -- THEOREM: 131,072 bytes of room suffice for every input
-  pub room-suffices : {r : Listed} {after : List ℕ} → Listing rule input before r after → 131072 ≤ length before → r ≡ Text (length (textOf rule input))
+  pub room-suffices : 131072 ≤ length before → r ≡ Text (length (textOf rule input))
   unfolding listedOf
-  room-suffices p h = p .answer ∙ rw (le-leb (length (textOf rule input)) (length before) (omega (arith, p .room)))
+  room-suffices h = P .answer ∙ rw (le-leb (length (textOf rule input)) (length before) (omega (arith, P .room)))

@@ -25,14 +25,11 @@ use Rattle.records.proofs.ModelLaws.{greatest-has}
 use Rattle.records.proofs.ReadLaws.{versions-rules}
 use Rattle.records.proofs.WithinLaws.{search-greatest}
 use Rattle.records.proofs.Theorems.{walk-last}
-use Rattle.point.specs.declared.Validated.{Validated}
 use Rattle.point.specs.declared.Validated.the-variants.{Accepted}
-use Rattle.point.specs.declared.Located.{Located}
-use Rattle.point.specs.declared.Opened.{Opened}
 use Rattle.point.specs.declared.Answer.{Answer}
 use Rattle.point.specs.declared.Answer.the-variants.{Found, Nothing, Refused}
 use Rattle.point.specs.Validate.{pilotsRefusal, slotRefusal, arenaRefusal, validateOf}
-use Rattle.point.specs.Get.{locateOf, openRecordOf, openOf, answerOf, getOf, partOf, valueOf, startOf, ValuePost}
+use Rattle.point.specs.Get.{answerOf, getOf, partOf, valueOf, startOf, ValuePost}
 use Rattle.point.specs.Lookup.{Newest, NoneWithin}
 use Rattle.point.specs.Table.{tableOf, keyPlace, bodyKey, keySlot, Belongs, answerTo}
 use Rattle.point.proofs.GetLaws.{from-open, from-nothing}
@@ -139,23 +136,7 @@ accepts body size t h pl n e u slots =
     ∙ ap (λ (x : Walked). x .rule) w in
     accepted body size (record { checked = record { header = h; pilots = pl }; arena = a })
 
--- ---- each call's result is fixed: two that meet its contract coincide
-
-pub validate-one : (body : List ℕ) (size : ℕ) (r s : Validated) → r ≡ validateOf body size → s ≡ validateOf body size → r ≡ s
-validate-one body size r s p q = p ∙ sym q
-
-pub locate-one : (body key : List ℕ) (r s : Located) → r ≡ locateOf body key → s ≡ locateOf body key → r ≡ s
-locate-one body key r s p q = p ∙ sym q
-
-pub open-record-one : (body : List ℕ) (place : ℕ) (key : List ℕ) (r s : Opened) → r ≡ openRecordOf body place key → s ≡ openRecordOf body place key → r ≡ s
-open-record-one body place key r s p q = p ∙ sym q
-
-pub open-one : (body key : List ℕ) (r s : Opened) → r ≡ openOf body key → s ≡ openOf body key → r ≡ s
-open-one body key r s p q = p ∙ sym q
-
-pub get-one : (body : List ℕ) (size : ℕ) (key : List ℕ) (limit : Limit) (r s : Answer) → r ≡ getOf body size key limit → s ≡ getOf body size key limit → r ≡ s
-get-one body size key limit r s p q = p ∙ sym q
-
+-- the part that value hands back, its bytes and its place, is fixed
 pub value-one : {body bytes key : List ℕ} {limit : Limit} {lent : ℕ × ℕ} {r s : List ℕ} {p q : ℕ × ℕ}
     → ValuePost body bytes key limit lent r p → ValuePost body bytes key limit lent s q → (r ≡ s) × (p ≡ q)
 value-one P Q = (P .value ∙ sym (Q .value), λ i. ((P .block ∙ sym (Q .block)) i, (P .start ∙ sym (Q .start)) i))

@@ -1,5 +1,5 @@
 -- Between the steps: what the functions of finish ask of what they are lent, and what they leave.
-use Prim.Native.Nat.{ℕ, _+_, _-_, _*_, _≤_, _<_}
+use Prim.Native.Nat.{ℕ, _+_, _-_, _≤_, _<_}
 use mathlib.Core.Path.{_≡_}
 use mathlib.Core.Bool.{cond}
 use mathlib.Core.List.{List}
@@ -10,26 +10,30 @@ use Rattle.numbers.specs.Limits.{mostKeys}
 use Rattle.words.specs.Field.{splice}
 use Rattle.mixing.specs.Mixing.{hashOf, fingerprintOf}
 use Rattle.records.specs.Places.{entryPlace}
-use Rattle.construct.specs.Construct.{bucketsOf}
+use Rattle.construct.specs.Construct.{bucketsOf, Placing}
 use Rattle.construct.specs.Keys.{arenaKey, attemptHashes}
 use Rattle.construct.specs.Inner.Layout.{Entries}
-use Rattle.construct.specs.Answer.{placing}
 use Rattle.finish.specs.declared.Finished.{Finished}
 use Rattle.finish.specs.Body.{arenaStart, slotBytes, placedOf, bodyOf}
 use Rattle.finish.specs.Finish.{answered, bodyLength, placingRefusal}
 
--- n entries inside the arena, 2n words of 64 bits, 8n + 8 words of 32 bits or more, and room for the body
-pub record Room (arena out wide narrow : List ℕ) (n : ℕ) : Type 0 where
+-- n entries inside the arena, 2n words of 64 bits, and room for the body
+pub record Room (arena out wide : List ℕ) (n : ℕ) : Type 0 where
   pub any : 0 < n
   pub most : n ≤ mostKeys
   pub entries : Entries arena n
   pub long : length wide ≡ n + n
-  pub words : 8 * n + 8 ≤ length narrow
   pub room : arenaStart n + length arena ≤ length out
 
+-- a placing by its pilots and its slots
+abbrev pub placedAs : (pilots slots : List ℕ) → Placing
+placedAs pilots slots = record { pilots = pilots; slots = slots }
+
 -- attempt i is taken, and left in the workspace
-pub record AttemptTaken (arena wide narrow : List ℕ) (n i : ℕ) : Type 0 where
-  pub taken : placedOf arena n ≡ some (i, placing n (bucketsOf n) narrow)
+pub record AttemptTaken (arena wide pilots slots : List ℕ) (n i : ℕ) : Type 0 where
+  pub pilots-long : length pilots ≡ bucketsOf n
+  pub slots-long : length slots ≡ n
+  pub taken : placedOf arena n ≡ some (i, placedAs pilots slots)
   pub hashes : take n wide ≡ attemptHashes arena n i
 
 -- the keys' hashes, and the entries' places behind them
@@ -46,10 +50,12 @@ pub record Filled (n : ℕ) (slots : List ℕ) : Type 0 where
   pub filled : (s : ℕ) → s < length slots → 0 < getD slots s 0
   pub keys : (s : ℕ) → s < length slots → getD slots s 0 ≤ n
 
--- hashes and slots from which the body is written
-pub record SlotsKnown (arena wide narrow : List ℕ) (n seed : ℕ) : Type 0 where
+-- hashes, pilots and slots from which the body is written
+pub record SlotsKnown (arena wide pilots slots : List ℕ) (n seed : ℕ) : Type 0 where
+  pub pilots-long : length pilots ≡ bucketsOf n
+  pub slots-long : length slots ≡ n
   pub hashes : (m : ℕ) → m < n → getD wide m 0 ≡ hashOf seed (arenaKey arena m)
-  pub slots : Filled n (placing n (bucketsOf n) narrow .slots)
+  pub slots-filled : Filled n slots
 
 -- the placing of the keys and what was written of it
 pub record BodyPost (arena out : List ℕ) (n : ℕ) (r : Finished) (out′ : List ℕ) : Type 0 where

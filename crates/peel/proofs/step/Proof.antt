@@ -61,6 +61,16 @@ change-requires c κs =
     let u = cells-under _ _ _ _ _ _ _ _ R (c .before .before .before .before .before .if2 .left) _ (c .before .before .before .positions .ensures) in
     ((λ v z. u v (let z' = rw length-set at z in omega (arith, R .narrow-room))), λ v z. u v (let z' = rw length-set at z in omega (arith, R .wide-room)))
 
+-- once the hash has left its cells the workspace is as long as before
+lengths : (x : tie.After-change) → (length (x .change .last .1 .0) ≡ length (x .before .before .before .before .before .before .before .before .before .before .before .before .args .wide .now)) × (length (x .change .last .0) ≡ length (x .before .before .before .before .before .before .before .before .before .before .before .before .args .narrow .now))
+lengths x =
+    let R = given (x .before .before .before .before .before .before .before .before .before .before .before .before) (x .before .before .before .before .before .before .before .before .before .if1 .left) in
+    let e = x .before .before .before .before .before .before .if2 .left in
+    let p = x .before .before .before .before .positions .ensures in
+    let small = bounded (x .before .before .before .before .before .before .before .before .before .before) in
+    let k = x .change .ensures in
+    (wide-length _ _ _ _ _ _ _ _ R e _ p small _ _ (k .0) (k .1), narrow-length _ _ _ _ _ _ _ _ R e _ p small _ _ (k .0) (k .1))
+
 queue-cells-requires : tie.Need-queue-cells-requires
 queue-cells-requires c κs =
     let g = c .before .before .before .before .before .before .before .before .before .before .before .before .before .before .before .before .before .before in
@@ -70,7 +80,7 @@ queue-cells-requires c κs =
     let small = bounded (c .before .before .before .before .before .before .before .before .before .before .before .before .before .before .before .before) in
     let k = c .before .before .before .before .before .before .change .ensures in (
       omega (arith, whole-small (g .args .g) (g .pre .0)),
-      omega (arith, R .narrow-room, narrow-length _ _ _ _ _ _ _ _ R e _ p small _ _ (k .0) (k .1)),
+      omega (arith, R .narrow-room, lengths (c .before .before .before .before .before .before) .1),
       cells-under _ _ _ _ _ _ _ _ R e _ p,
       room-queue _ _ _ _ _ _ _ _ R e _ p small _ _ (k .0) (k .1),
     )
@@ -78,24 +88,10 @@ queue-cells-requires c κs =
 add-t15 : tie.Need-add-t15
 add-t15 c = omega (arith, stack-in (c .before .before .before .before .before .before .before .before .before .before .before .before .before .before .before .before .before .before .before .before .before) (c .before .before .before .before .before .before .before .before .before .before .before .before .before .before .before .before .before .before .if1 .left) (c .before .before .before .before .before .before .before .before .before .before .before .before .before .before .before .if2 .left) .0)
 
-same-length : tie.Need-same-length
-same-length c =
-    let R = given (c .before .before .before .before .before .before .before .before .before .before .before .before .before .before .before .before .before .before .before .before .before) (c .before .before .before .before .before .before .before .before .before .before .before .before .before .before .before .before .before .before .if1 .left) in
-    let e = c .before .before .before .before .before .before .before .before .before .before .before .before .before .before .before .if2 .left in
-    let p = c .before .before .before .before .before .before .before .before .before .before .before .before .before .positions .ensures in
-    let small = bounded (c .before .before .before .before .before .before .before .before .before .before .before .before .before .before .before .before .before .before .before) in
-    let k = c .before .before .before .before .before .before .before .before .before .change .ensures in
-    wide-length _ _ _ _ _ _ _ _ R e _ p small _ _ (k .0) (k .1)
-
 same-length-2 : tie.Need-same-length-2
 same-length-2 c =
-    let R = given (c .before .before .before .before .before .before .before .before .before .before .before .before .before .before .before .before .before .before .before .before .before) (c .before .before .before .before .before .before .before .before .before .before .before .before .before .before .before .before .before .before .if1 .left) in
-    let e = c .before .before .before .before .before .before .before .before .before .before .before .before .before .before .before .if2 .left in
-    let p = c .before .before .before .before .before .before .before .before .before .before .before .before .before .positions .ensures in
-    let small = bounded (c .before .before .before .before .before .before .before .before .before .before .before .before .before .before .before .before .before .before .before) in
-    let k = c .before .before .before .before .before .before .before .before .before .change .ensures in
     let q : length (c .before .before .queue-cells .last .0) ≡ length (c .before .before .before .before .before .before .before .before .before .change .last .0) = search needs in
-    q ∙ narrow-length _ _ _ _ _ _ _ _ R e _ p small _ _ (k .0) (k .1)
+    q ∙ lengths (c .before .before .before .before .before .before .before .before .before) .1
 
 returns-3 : tie.Need-returns-3
 returns-3 c =
@@ -133,6 +129,6 @@ step-spec =
     (λ c. search needs)
     queue-cells-requires
     add-t15
-    same-length
+    (λ c. lengths (c .before .before .before .before .before .before .before .before .before) .0)
     same-length-2
     returns-3)

@@ -25,29 +25,11 @@ returns-5 c = let s = c .before .before .before .before .before .before .before 
 returns-6 : tie.Need-returns-6
 returns-6 c = let s = c .before .before .before .before .before .before .before .before .args in fits-not (s .self) (s .buffer .now) (c .before .before .before .before .before .if1 .left) (λ f. omega arith)
 
-u32-at-requires : tie.Need-u32-at-requires
-u32-at-requires c κs = omega arith
-
-add-u32-at : tie.Need-add-u32-at
-add-u32-at c = omega arith
-
-u32-at-requires-2 : tie.Need-u32-at-requires-2
-u32-at-requires-2 c κs = omega arith
-
 returns-7 : tie.Need-returns-7
 returns-7 c = let s = c .before .before .before .before .before .before .before .before .before .before .before .args in fits-not (s .self) (s .buffer .now) (c .before .before .before .before .before .before .before .before .if1 .left) (λ f. omega arith)
 
 returns-8 : tie.Need-returns-8
 returns-8 c = let s = c .before .before .before .before .before .before .before .before .before .before .before .before .args in fits-not (s .self) (s .buffer .now) (c .before .before .before .before .before .before .before .before .before .if1 .left) (λ f. omega arith)
-
-sub-if9 : tie.Need-sub-if9
-sub-if9 c = omega arith
-
-mul-if9 : tie.Need-mul-if9
-mul-if9 c = omega arith
-
-add-if9 : tie.Need-add-if9
-add-if9 c = omega arith
 
 returns-9 : tie.Need-returns-9
 returns-9 c =
@@ -69,16 +51,16 @@ fits-spec =
     returns-4
     returns-5
     returns-6
-    u32-at-requires
+    (λ c κs. omega arith)
     (λ c. search needs)
-    add-u32-at
-    u32-at-requires-2
+    (λ c. omega arith)
+    (λ c κs. omega arith)
     (λ c. search needs)
     (λ c. search needs)
     returns-7
     returns-8
-    sub-if9
-    mul-if9
-    add-if9
+    (λ c. omega arith)
+    (λ c. omega arith)
+    (λ c. omega arith)
     returns-9
     returns-10)

@@ -21,9 +21,6 @@ returns-2 c =
     let a = c .before .before .before .before .before .before .args in
     add-refused (add-stateless (a .state .now) (a .kind) (a .answer .now) (c .before .if1 .left) (c .if2 .taken)) (omega arith)
 
-enum-told : tie.Need-enum-told
-enum-told c = search needs
-
 returns-3 : tie.Need-returns-3
 returns-3 c =
     let a = c .before .before .before .before .before .before .before .before .before .args in
@@ -58,7 +55,7 @@ kiban-add-spec =
     returns-2
     (λ c κs. search needs)
     (λ c. search needs)
-    enum-told
+    (λ c. search needs)
     (λ c. search needs)
     returns-3
     (λ c κs. search needs)

@@ -8,9 +8,6 @@ use Rattle.kiban_c.proofs.builder_calls.kiban_set_offset.Tie as tie
 returns : tie.Need-returns
 returns c = set-refused (c .if1 .taken)
 
-enum-told : tie.Need-enum-told
-enum-told c = search needs
-
 returns-2 : tie.Need-returns-2
 returns-2 c =
     set-made {r = Set} (c .before .before .before .before .before .before .before .if1 .left) (c .before .before .before .before .before .before .state-of .ensures) (c .before .before .before .before .set-value-offset .ensures) (c .enum-told .given .1)
@@ -28,7 +25,7 @@ kiban-set-offset-spec =
     returns
     (λ c κs. search needs)
     (λ c κs. search needs)
-    enum-told
+    (λ c. search needs)
     (λ c. search needs)
     (λ c. search needs)
     (λ c. search needs)

@@ -1,19 +1,19 @@
--- `ask_each` stores number by number, and the numbers so far are the invariant. Assumes nothing.
-use mathlib.Core.Path.{_≡_, ap, _∙_}
+-- `ask_each` stores number by number. The invariant: the first i numbers are put. Assumes nothing.
+use mathlib.Core.Path.{ap, _∙_}
 use mathlib.Core.List.{map}
-use Prim.Native.Nat.{_-_, _≤_}
+use Prim.Native.Nat.{_-_}
 use native.Mathlib.Omega.{arith}
-use lib.ListN.{length}
-use lib.Seq.{paste, paste-zero}
+use lib.ListN.{length, length-map}
+use Rattle.words.proofs.Pasted.{Pasting, pasting-none, pasting-length, pasting-done}
 use Rattle.filter.specs.Asking.{askNumber}
-use Rattle.kiban_c.specs.FilterCalls.{cellsAskOf}
-use Rattle.kiban_c.proofs.FilterCallLaws.{each-length, each-next, each-whole}
+use Rattle.kiban_c.specs.Inner.Asking.{cellsAskOf}
+use Rattle.kiban_c.proofs.FilterCallLaws.{each-more}
 use borrow.Author.Needs.{needs}
 use Rattle.kiban_c.proofs.filter_calls.ask_each.Statement.{statement}
 use Rattle.kiban_c.proofs.filter_calls.ask_each.Tie as tie
 
 abbrev Inv-loop : tie.InvT-loop
-Inv-loop s cells hashes answers₀ i₀ answers i = (i ≤ length hashes) × (answers ≡ paste answers₀ 0 (map (cellsAskOf s cells) hashes) i)
+Inv-loop s cells hashes answers₀ i₀ answers i = Pasting answers₀ 0 (map (cellsAskOf s cells) hashes) i answers
 
 abbrev μ-loop : tie.MeasureT-loop
 μ-loop s cells hashes answers₀ i₀ answers i = length hashes - i
@@ -21,52 +21,22 @@ abbrev μ-loop : tie.MeasureT-loop
 loop-holds : tie.Need-loop-holds Inv-loop μ-loop
 loop-holds c =
     let a = c .before .before .before .args in
-    (search needs, paste-zero (a .answers .now) 0 (map (cellsAskOf (a .s) (a .cells .now)) (a .hashes .now)))
-
-mul-ask-cells : tie.Need-mul-ask-cells Inv-loop μ-loop
-mul-ask-cells c = search needs
-
-shared-slice-read-ask-cells : tie.Need-shared-slice-read-ask-cells Inv-loop μ-loop
-shared-slice-read-ask-cells c = search needs
-
-ask-cells-requires : tie.Need-ask-cells-requires Inv-loop μ-loop
-ask-cells-requires c κs = search needs
-
-number-requires : tie.Need-number-requires Inv-loop μ-loop
-number-requires c κs = search needs
+    let f = cellsAskOf (a .s) (a .cells .now) in
+    pasting-none (a .answers .now) 0 (map f (a .hashes .now)) (omega (arith, length-map (a .hashes .now) f))
 
 slice-write-answers : tie.Need-slice-write-answers Inv-loop μ-loop
-slice-write-answers c =
-    let a = c .before .before .before .before .before .before .before .before .args in
-    let k = c .before .before .before .before .loop in
-    omega (arith, each-length (cellsAskOf (a .s) (a .cells .now)) (a .hashes .now) (a .answers .now) (k .answers) (k .i) (c .before .before .before .before .before .before .before .before .pre) (k .inv .1) (k .inv .0))
-
-add-i : tie.Need-add-i Inv-loop μ-loop
-add-i c = search needs
-
-loop-less : tie.Need-loop-less Inv-loop μ-loop
-loop-less c = search needs
+slice-write-answers c = omega (arith, pasting-length (c .before .before .before .before .loop .inv))
 
 loop-again : tie.Need-loop-again Inv-loop μ-loop
 loop-again c =
     let a = c .before .before .before .before .before .before .before .before .args in
-    let k = c .before .before .before .before .loop in (
-      search needs,
-      each-next (cellsAskOf (a .s) (a .cells .now)) (a .hashes .now) (a .answers .now) (k .answers) (k .i) (c .before .before .before .before .before .before .before .before .pre) (k .inv .1) _
-          (c .before .before .before .loop-test .taken) (c .number .ensures ∙ ap askNumber (c .before .ask-cells .ensures)),
-    )
-
-same-length : tie.Need-same-length Inv-loop μ-loop
-same-length c =
-    let a = c .before .before .before .before .before .args in
-    let k = c .before .loop in
-    each-length (cellsAskOf (a .s) (a .cells .now)) (a .hashes .now) (a .answers .now) (k .answers) (k .i) (c .before .before .before .before .before .pre) (k .inv .1) (k .inv .0)
+    each-more (cellsAskOf (a .s) (a .cells .now)) (a .hashes .now) (c .before .before .before .before .loop .inv) _ (c .before .before .before .loop-test .taken)
+    (c .number .ensures ∙ ap askNumber (c .before .ask-cells .ensures))
 
 returns : tie.Need-returns Inv-loop μ-loop
 returns c =
     let a = c .before .before .before .before .before .args in
-    let k = c .before .loop in
-    each-whole (cellsAskOf (a .s) (a .cells .now)) (a .hashes .now) (a .answers .now) (k .answers) (k .i) (c .before .before .before .before .before .pre) (k .inv .1) (omega arith)
+    pasting-done (c .before .loop .inv) (omega (arith, length-map (a .hashes .now) (cellsAskOf (a .s) (a .cells .now))))
 
 pub ask-each-spec : {M : Type 1} → statement M
 ask-each-spec =
@@ -75,13 +45,13 @@ ask-each-spec =
     Inv-loop
     μ-loop
     loop-holds
-    mul-ask-cells
-    shared-slice-read-ask-cells
-    ask-cells-requires
-    number-requires
+    (λ c. search needs)
+    (λ c. search needs)
+    (λ c κs. search needs)
+    (λ c κs. search needs)
     slice-write-answers
-    add-i
-    loop-less
+    (λ c. search needs)
+    (λ c. search needs)
     loop-again
-    same-length
+    (λ c. pasting-length (c .before .loop .inv))
     returns)

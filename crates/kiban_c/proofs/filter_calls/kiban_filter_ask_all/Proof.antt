@@ -6,7 +6,7 @@ use mathlib.Core.List.{List, map}
 use lib.Seq.{length-take-le}
 use Rattle.words.specs.Field.{splice}
 use Rattle.filter.proofs.AskLaws.{cells-part}
-use Rattle.kiban_c.specs.FilterCalls.{cellsAskOf}
+use Rattle.kiban_c.specs.Inner.Asking.{cellsAskOf}
 use Rattle.kiban_c.proofs.FilterCallLaws.{fuse-cells, all-refused, all-unread, all-positive, all-fuse}
 use borrow.Author.Needs.{needs}
 use Rattle.kiban_c.proofs.filter_calls.kiban_filter_ask_all.Statement.{statement}
@@ -14,9 +14,6 @@ use Rattle.kiban_c.proofs.filter_calls.kiban_filter_ask_all.Tie as tie
 
 returns : tie.Need-returns
 returns c = all-refused (c .if1 .taken)
-
-enum-told : tie.Need-enum-told
-enum-told c = search needs
 
 slice-aggregate-fill : tie.Need-slice-aggregate-fill
 slice-aggregate-fill c = sym (length-take-le _ _ (c .before .before .before .before .if1 .left))
@@ -52,7 +49,7 @@ kiban-filter-ask-all-spec =
     (λ c. search needs)
     returns
     (λ c κs. search needs)
-    enum-told
+    (λ c. search needs)
     (λ c. search needs)
     slice-aggregate-fill
     (λ c κs. search needs)

@@ -13,44 +13,27 @@ use Rattle.kiban_c.proofs.filter_calls.kiban_filter_build.Tie as tie
 returns : tie.Need-returns
 returns c = build-refused (c .if1 .taken)
 
-enum-told : tie.Need-enum-told
-enum-told c = search needs
-
 mul-answer : tie.Need-mul-answer
-mul-answer c =
-    let z = c .before .before .before .s .given in
-    let small = cells-small (c .before .before .before .before .before .before .before .before .before .before .before .before .before .build .ensures) (z .0 .0) (z .1) in
-    omega arith
+mul-answer c = let z = c .before .before .before .s .given in omega (arith, cells-small (c .before .before .before .before .before .before .before .before .before .before .before .before .before .build .ensures) (z .0 .0) (z .1))
 
 add-answer-2 : tie.Need-add-answer-2
-add-answer-2 c =
-    let z = c .before .before .before .s .given in
-    let small = cells-small (c .before .before .before .before .before .before .before .before .before .before .before .before .before .build .ensures) (z .0 .0) (z .1) in
-    omega arith
+add-answer-2 c = let z = c .before .before .before .s .given in omega (arith, cells-small (c .before .before .before .before .before .before .before .before .before .before .before .before .before .build .ensures) (z .0 .0) (z .1))
 
 returns-2 : tie.Need-returns-2
 returns-2 c =
-    let s = c .before .before .before .before .before .before .before .before .before .before .before .before .before .before .before .before .before .before .before .before .before .args in
-    let f = c .before .before .before .before .before .before .before .before .before .before .build in
     let some = c .before .before .before .before .before .before .before .before .before .before .before .before .before .before .before .if1 .left in
-    let t = c .enum-told .given in
-    build-made {r = Positive} (omega arith) (f .ensures) (t .1) (splice-sets (s .answer .now) 0 (builtValues Positive) (omega arith))
+    build-made {r = Positive} some (c .before .before .before .before .before .before .before .before .before .before .build .ensures) (c .enum-told .given .1) (splice-sets (c .before .before .before .before .before .before .before .before .before .before .before .before .before .before .before .before .before .before .before .before .before .args .answer .now) 0 (builtValues Positive) (omega arith))
 
 returns-3 : tie.Need-returns-3
 returns-3 c =
-    let s = c .before .before .before .before .before .before .before .before .before .before .before .before .before .before .before .before .before .before .before .before .before .before .before .before .args in
-    let f = c .before .before .before .before .before .before .before .before .before .before .before .before .before .build in
     let some = c .before .before .before .before .before .before .before .before .before .before .before .before .before .before .before .before .before .before .if1 .left in
     let z = c .before .before .before .s .given in
-    build-made {r = Fuse (z .0 .0)} (omega arith) (f .ensures) (z .1) (splice-sets (s .answer .now) 0 (builtValues (Fuse (z .0 .0))) (omega arith))
+    build-made {r = Fuse (z .0 .0)} some (c .before .before .before .before .before .before .before .before .before .before .before .before .before .build .ensures) (z .1) (splice-sets (c .before .before .before .before .before .before .before .before .before .before .before .before .before .before .before .before .before .before .before .before .before .before .before .before .args .answer .now) 0 (builtValues (Fuse (z .0 .0))) (omega arith))
 
 returns-4 : tie.Need-returns-4
 returns-4 c =
-    let s = c .before .before .before .before .before .before .before .before .before .before .before .before .before .before .before .before .before .before .before .before .before .before .args in
-    let f = c .before .before .before .before .before .before .before .before .before .before .before .build in
-    let some = c .before .before .before .before .before .before .before .before .before .before .before .before .before .before .before .before .if1 .left in
     let n = c .before .n .given in
-    build-made {r = Refused (n .0 .0)} (omega arith) (f .ensures) (n .1) (sym (splice-none (s .answer .now) 0))
+    build-made {r = Refused (n .0 .0)} (c .before .before .before .before .before .before .before .before .before .before .before .before .before .before .before .before .if1 .left) (c .before .before .before .before .before .before .before .before .before .before .before .build .ensures) (n .1) (sym (splice-none _ 0))
 
 pub kiban-filter-build-spec : {M : Type 1} → statement M
 kiban-filter-build-spec =
@@ -59,7 +42,7 @@ kiban-filter-build-spec =
     (λ c. search needs)
     returns
     (λ c κs. search needs)
-    enum-told
+    (λ c. search needs)
     (λ c. search needs)
     (λ c. search needs)
     (λ c. search needs)

@@ -14,9 +14,6 @@ use Rattle.kiban_c.proofs.filter_calls.kiban_filter_read.Tie as tie
 returns : tie.Need-returns
 returns c = read-refused (c .if1 .taken)
 
-enum-told : tie.Need-enum-told
-enum-told c = search needs
-
 sub-cells : tie.Need-sub-cells
 sub-cells c =
     let z = c .before .s .given in
@@ -44,7 +41,7 @@ kiban-filter-read-spec =
     (λ c. search needs)
     returns
     (λ c κs. search needs)
-    enum-told
+    (λ c. search needs)
     (λ c. search needs)
     (λ c κs. search needs)
     (λ c. search needs)

@@ -15,19 +15,14 @@ returns c = finish-refused (c .if1 .taken)
 
 returns-2 : tie.Need-returns-2
 returns-2 c =
-    let s = c .before .before .before .before .before .before .before .before .before .before .before .before .before .before .before .before .before .before .before .args in
-    let f = c .before .before .before .before .before .before .before .before .before .finish in
-    let size = c .before .size .given in
     let some = c .before .before .before .before .before .before .before .before .before .before .before .before .before .if1 .left in
-    finish-made {r = Body (size .0 .0)} (omega arith) (f .ensures) (size .1) (splice-sets (s .answer .now) 0 (finishedValues (Body (size .0 .0))) (omega arith))
+    let z = c .before .size .given in
+    finish-made {r = Body (z .0 .0)} some (c .before .before .before .before .before .before .before .before .before .finish .ensures) (z .1) (splice-sets (c .before .before .before .before .before .before .before .before .before .before .before .before .before .before .before .before .before .before .before .args .answer .now) 0 (finishedValues (Body (z .0 .0))) (omega arith))
 
 returns-3 : tie.Need-returns-3
 returns-3 c =
-    let s = c .before .before .before .before .before .before .before .before .before .before .before .before .before .before .before .before .before .before .before .args in
-    let f = c .before .before .before .before .before .before .before .before .before .finish in
     let n = c .before .n .given in
-    let some = c .before .before .before .before .before .before .before .before .before .before .before .before .before .if1 .left in
-    finish-made {r = Refused (n .0 .0)} (omega arith) (f .ensures) (n .1) (sym (splice-none (s .answer .now) 0))
+    finish-made {r = Refused (n .0 .0)} (c .before .before .before .before .before .before .before .before .before .before .before .before .before .if1 .left) (c .before .before .before .before .before .before .before .before .before .finish .ensures) (n .1) (sym (splice-none _ 0))
 
 pub kiban-finish-spec : {M : Type 1} → statement M
 kiban-finish-spec =

@@ -13,9 +13,6 @@ use Rattle.kiban_c.proofs.point_calls.kiban_get.Tie as tie
 returns : tie.Need-returns
 returns c = get-refused (c .if1 .taken)
 
-enum-told : tie.Need-enum-told
-enum-told c = search needs
-
 returns-2 : tie.Need-returns-2
 returns-2 c =
     let answer = c .before .before .before .before .before .before .before .before .before .before .before .before .before .before .before .before .before .args .answer .now in
@@ -45,7 +42,7 @@ kiban-get-spec =
     (λ c. search needs)
     (λ c. search needs)
     (λ c κs. search needs)
-    enum-told
+    (λ c. search needs)
     (λ c. search needs)
     (λ c. search needs)
     (λ c. search needs)

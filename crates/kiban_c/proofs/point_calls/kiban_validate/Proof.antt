@@ -5,9 +5,6 @@ use borrow.Author.Needs.{needs}
 use Rattle.kiban_c.proofs.point_calls.kiban_validate.Statement.{statement}
 use Rattle.kiban_c.proofs.point_calls.kiban_validate.Tie as tie
 
-enum-told : tie.Need-enum-told
-enum-told c = search needs
-
 returns : tie.Need-returns
 returns c = sym (ap refusalNumber (sym (c .before .before .validate .ensures) ∙ c .enum-told .given .1))
 
@@ -16,4 +13,4 @@ returns-2 c = sym (ap refusalNumber (sym (c .before .before .before .validate .e
 
 pub kiban-validate-spec : {M : Type 1} → statement M
 kiban-validate-spec =
-    tie.close (tie.spec (λ c κs. search needs) enum-told (λ c. search needs) (λ c. search needs) returns returns-2)
+    tie.close (tie.spec (λ c κs. search needs) (λ c. search needs) (λ c. search needs) (λ c. search needs) returns returns-2)

@@ -13,31 +13,7 @@ Inv-loop space₀ i₀ space i = Filling space₀ 0 i space
 abbrev μ-loop : tie.MeasureT-loop
 μ-loop space₀ i₀ space i = length space₀ - i
 
-loop-holds : tie.Need-loop-holds Inv-loop μ-loop
-loop-holds c = filling-none (c .args .space .now) 0
-
-mul-space : tie.Need-mul-space Inv-loop μ-loop
-mul-space c = search needs
-
-slice-write-space : tie.Need-slice-write-space Inv-loop μ-loop
-slice-write-space c = search needs
-
-add-i : tie.Need-add-i Inv-loop μ-loop
-add-i c = search needs
-
-loop-less : tie.Need-loop-less Inv-loop μ-loop
-loop-less c = omega (arith, filling-length (c .before .loop .inv))
-
-loop-again : tie.Need-loop-again Inv-loop μ-loop
-loop-again c = filling-more (c .before .loop .inv) (search needs)
-
-same-length : tie.Need-same-length Inv-loop μ-loop
-same-length c = filling-length (c .before .loop .inv)
-
-returns : tie.Need-returns Inv-loop μ-loop
-returns c = filling-done (c .before .loop .inv) (search needs)
-
 pub clear-u32-spec : {M : Type 1} → statement M
 clear-u32-spec =
     tie.close
-    (tie.spec Inv-loop μ-loop loop-holds mul-space slice-write-space add-i loop-less loop-again same-length returns)
+    (tie.spec Inv-loop μ-loop (λ c. filling-none (c .args .space .now) 0) (λ c. search needs) (λ c. search needs) (λ c. search needs) (λ c. omega (arith, filling-length (c .before .loop .inv))) (λ c. filling-more (c .before .loop .inv) (search needs)) (λ c. filling-length (c .before .loop .inv)) (λ c. filling-done (c .before .loop .inv) (search needs)))
