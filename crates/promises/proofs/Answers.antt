@@ -1,5 +1,5 @@
 -- The number and values of each answer, from the laws of its crate. Assumes nothing.
-use Rattle.builder.proofs.Answers as builder
+use Rattle.builder.proofs.Answers.{taken-values as add-values, refused-values as add-refused-values}
 use Rattle.construct.proofs.Exhausting as construct
 use Rattle.finish.proofs.Answers.{finish-values}
 use Rattle.point.proofs.AnswerLaws as point
@@ -13,8 +13,8 @@ use Rattle.promises.specs.Answers.{Answers}
 pub answers : Answers
 answers = record {
   add = λ s buffer call. record {
-    add-values = builder.taken-values s buffer call;
-    add-refused-values = λ n. builder.refused-values s buffer call;
+    add-values = add-values s buffer call;
+    add-refused-values = λ n. add-refused-values s buffer call;
   };
   construct = λ {hashes} {n} {wide} {narrow} {r} P. record {
     construct-values = construct.taken-values hashes n wide narrow r P;

@@ -17,14 +17,8 @@ Inv-loop arena wide₀ narrow₀ n b i₀ wide narrow i = (length wide ≡ lengt
 abbrev μ-loop : tie.MeasureT-loop
 μ-loop arena wide₀ narrow₀ n b i₀ wide narrow i = 8 - i
 
-buckets-requires : tie.Need-buckets-requires Inv-loop μ-loop
-buckets-requires c κs = search needs
-
 loop-holds : tie.Need-loop-holds Inv-loop μ-loop
 loop-holds c = (refl, refl, λ q l. absurd (omega arith))
-
-seed-requires : tie.Need-seed-requires Inv-loop μ-loop
-seed-requires c κs = search needs
 
 attempt-requires : tie.Need-attempt-requires Inv-loop μ-loop
 attempt-requires c κs =
@@ -32,12 +26,6 @@ attempt-requires c κs =
     let buckets = c .before .before .before .before .before .buckets in
     let loop = c .before .before .before .before .loop in
     (lent-kept _ _ _ _ pre _ _ (loop .inv .0) (loop .inv .1), buckets .ensures)
-
-same-length : tie.Need-same-length Inv-loop μ-loop
-same-length c = search needs
-
-same-length-2 : tie.Need-same-length-2 Inv-loop μ-loop
-same-length-2 c = search needs
 
 returns : tie.Need-returns Inv-loop μ-loop
 unfolding attempts
@@ -48,12 +36,6 @@ returns c =
     let seed = c .before .before .before .before .before .before .seed in
     built-placed _ _ _ (loop .inv .2) _ _ (a .last .1 .0) (a .last .1 .1 .0) (a .result) (buckets .ensures) (seed .ensures) (a .ensures) (omega arith) (c .if1 .taken)
 
-add-i : tie.Need-add-i Inv-loop μ-loop
-add-i c = search needs
-
-loop-less : tie.Need-loop-less Inv-loop μ-loop
-loop-less c = search needs
-
 loop-again : tie.Need-loop-again Inv-loop μ-loop
 loop-again c =
     let a = c .before .before .before .before .before .attempt in
@@ -61,12 +43,6 @@ loop-again c =
     let buckets = c .before .before .before .before .before .before .before .before .before .before .before .buckets in
     let seed = c .before .before .before .before .before .before .seed in
     (a .kept .1 .0 ∙ w .0, a .kept .1 .1 .0 ∙ w .1, failed-more _ _ _ (w .2) _ _ (a .last .1 .0) (a .last .1 .1 .0) (a .result) (buckets .ensures) (seed .ensures) (a .ensures) (c .if1 .left))
-
-same-length-3 : tie.Need-same-length-3 Inv-loop μ-loop
-same-length-3 c = search needs
-
-same-length-4 : tie.Need-same-length-4 Inv-loop μ-loop
-same-length-4 c = search needs
 
 returns-2 : tie.Need-returns-2 Inv-loop μ-loop
 unfolding attempts
@@ -78,16 +54,16 @@ construct-spec =
     (tie.spec
     Inv-loop
     μ-loop
-    buckets-requires
+    (λ c κs. search needs)
     loop-holds
-    seed-requires
+    (λ c κs. search needs)
     attempt-requires
-    same-length
-    same-length-2
+    (λ c. search needs)
+    (λ c. search needs)
     returns
-    add-i
-    loop-less
+    (λ c. search needs)
+    (λ c. search needs)
     loop-again
-    same-length-3
-    same-length-4
+    (λ c. search needs)
+    (λ c. search needs)
     returns-2)

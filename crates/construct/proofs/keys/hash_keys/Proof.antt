@@ -27,12 +27,6 @@ hash-at-requires c κs = entry-inside _ _ (c .before .loop .i) _ (c .before .bef
     low : c .before .loop .i < length (now (c .before .before .before .before .args .hashes))
     low = omega arith
 
-mul-hashes : tie.Need-mul-hashes Inv-loop μ-loop
-mul-hashes c = search needs
-
-slice-write-hashes : tie.Need-slice-write-hashes Inv-loop μ-loop
-slice-write-hashes c = search needs
-
 next-entry-requires : tie.Need-next-entry-requires Inv-loop μ-loop
 next-entry-requires c κs =
     let pre = c .before .before .before .before .before .pre in
@@ -42,21 +36,12 @@ next-entry-requires c κs =
     low : c .before .before .loop .i < length (now (c .before .before .before .before .before .args .hashes))
     low = omega arith
 
-add-i : tie.Need-add-i Inv-loop μ-loop
-add-i c = search needs
-
-loop-less : tie.Need-loop-less Inv-loop μ-loop
-loop-less c = search needs
-
 loop-again : tie.Need-loop-again Inv-loop μ-loop
 loop-again c =
     let w = c .before .before .before .loop .inv in
     let low : c .before .before .before .loop .i < length (c .before .before .before .loop .hashes) = omega arith in
     let hash-at = c .before .hash-at in
     (omega arith, simp length-set (w .1), c .next-entry .ensures ∙ ap (nextEntry _) (w .2) ∙ sym (entry-next _ _), hashes-more _ _ _ _ _ _ low (w .2) (hash-at .ensures) (w .3))
-
-same-length : tie.Need-same-length Inv-loop μ-loop
-same-length c = search needs
 
 returns : tie.Need-returns Inv-loop μ-loop
 returns c =
@@ -74,11 +59,11 @@ hash-keys-spec =
     μ-loop
     loop-holds
     hash-at-requires
-    mul-hashes
-    slice-write-hashes
+    (λ c. search needs)
+    (λ c. search needs)
     next-entry-requires
-    add-i
-    loop-less
+    (λ c. search needs)
+    (λ c. search needs)
     loop-again
-    same-length
+    (λ c. search needs)
     returns)

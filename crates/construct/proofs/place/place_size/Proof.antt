@@ -18,17 +18,11 @@ abbrev μ-loop : tie.MeasureT-loop
 loop-holds : tie.Need-loop-holds Inv-loop μ-loop
 loop-holds c = (omega arith, left-none _ _ _ _)
 
-sub-k : tie.Need-sub-k Inv-loop μ-loop
-sub-k c = search needs
-
 place-of-requires : tie.Need-place-of-requires Inv-loop μ-loop
 place-of-requires c κs =
     let s = c .before .before .loop .inv .1 in
     let pre = c .before .before .before .before .before .pre in
     (bench-kept _ _ _ _ _ (pre .0) (s .long) (s .ends), (omega (arith, c .before .loop-test .taken, c .before .before .loop .inv .0), pre .1))
-
-same-length : tie.Need-same-length Inv-loop μ-loop
-same-length c = search needs
 
 returns : tie.Need-returns Inv-loop μ-loop
 unfolding placeSize
@@ -39,20 +33,11 @@ returns c =
     let place-of = c .before .before .before .place-of in
     so-far-fails _ _ _ _ _ _ (place-of .last .1 .0) (place-of .result) (loop .inv .1) (place-of .ensures) _ (omega (arith, loop-test .taken, loop .inv .0, bench-buckets _ _ _ _ (pre .0))) (not-true (place-of .result) (c .if1 .taken))
 
-sub-left : tie.Need-sub-left Inv-loop μ-loop
-sub-left c = search needs
-
-loop-less : tie.Need-loop-less Inv-loop μ-loop
-loop-less c = search needs
-
 loop-again : tie.Need-loop-again Inv-loop μ-loop
 loop-again c =
     let loop = c .before .before .before .before .before .before .loop in
     let place-of = c .before .before .before .place-of in
     (omega arith, left-more _ _ _ _ _ _ (place-of .last .1 .0) (place-of .result) (c .before .before .before .before .before .loop-test .taken) (loop .inv .0) (loop .inv .1) (place-of .ensures) (not-false (place-of .result) (c .if1 .left)) (place-of .kept .1 .0))
-
-same-length-2 : tie.Need-same-length-2 Inv-loop μ-loop
-same-length-2 c = search needs
 
 returns-2 : tie.Need-returns-2 Inv-loop μ-loop
 unfolding placeSize
@@ -68,12 +53,12 @@ place-size-spec =
     Inv-loop
     μ-loop
     loop-holds
-    sub-k
+    (λ c. search needs)
     place-of-requires
-    same-length
+    (λ c. search needs)
     returns
-    sub-left
-    loop-less
+    (λ c. search needs)
+    (λ c. search needs)
     loop-again
-    same-length-2
+    (λ c. search needs)
     returns-2)

@@ -23,9 +23,6 @@ place-size-requires c κs =
     let s = c .before .before .loop .inv .2 in
     (bench-kept _ _ _ _ _ (c .before .before .before .before .before .pre .0) (s .long) (s .ends), c .before .loop-test .taken)
 
-same-length : tie.Need-same-length Inv-loop μ-loop
-same-length c = search needs
-
 returns : tie.Need-returns Inv-loop μ-loop
 returns c =
     let l = c .before .before .before .before .before .before .loop in
@@ -33,21 +30,12 @@ returns c =
     let place-size = c .before .before .before .place-size in
     down-fails _ _ _ _ _ _ _ (place-size .last .1 .0) (place-size .result) (l .inv .0) (l .inv .2) (place-size .ensures) (loop-test .taken) (not-true (place-size .result) (c .if1 .taken))
 
-sub-s : tie.Need-sub-s Inv-loop μ-loop
-sub-s c = search needs
-
-loop-less : tie.Need-loop-less Inv-loop μ-loop
-loop-less c = search needs
-
 loop-again : tie.Need-loop-again Inv-loop μ-loop
 loop-again c =
     let l = c .before .before .before .before .before .before .loop in
     let loop-test = c .before .before .before .before .before .loop-test in
     let place-size = c .before .before .before .place-size in
     (omega arith, omega arith, down-more _ _ _ _ _ _ _ (place-size .last .1 .0) (place-size .result) (l .inv .0) (l .inv .2) (place-size .ensures) (loop-test .taken) (not-false (place-size .result) (c .if1 .left)) (place-size .kept .1 .0))
-
-same-length-2 : tie.Need-same-length-2 Inv-loop μ-loop
-same-length-2 c = search needs
 
 returns-2 : tie.Need-returns-2 Inv-loop μ-loop
 returns-2 c =
@@ -62,10 +50,10 @@ place-sizes-spec =
     μ-loop
     loop-holds
     place-size-requires
-    same-length
+    (λ c. search needs)
     returns
-    sub-s
-    loop-less
+    (λ c. search needs)
+    (λ c. search needs)
     loop-again
-    same-length-2
+    (λ c. search needs)
     returns-2)

@@ -37,12 +37,6 @@ returns c =
     let try-pilot = c .before .before .before .try-pilot in
     search-hit _ _ _ _ (loop .inv .2) _ low (tried-yes _ _ _ _ _ _ _ (loop .inv .1) (try-pilot .ensures) (c .if1 .taken))
 
-add-p : tie.Need-add-p Inv-loop μ-loop
-add-p c = search needs
-
-loop-less : tie.Need-loop-less Inv-loop μ-loop
-loop-less c = omega arith
-
 loop-again : tie.Need-loop-again Inv-loop μ-loop
 loop-again c =
     let n = tried-no _ _ _ _ _ _ _ (c .before .before .before .before .before .before .loop .inv .1) (c .before .before .before .try-pilot .ensures) (c .if1 .left) in
@@ -65,8 +59,8 @@ find-pilot-spec =
     try-pilot-requires
     same-length
     returns
-    add-p
-    loop-less
+    (λ c. search needs)
+    (λ c. omega arith)
     loop-again
     same-length-2
     returns-2)

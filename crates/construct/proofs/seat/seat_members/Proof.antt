@@ -19,28 +19,10 @@ abbrev μ-loop : tie.MeasureT-loop
 loop-holds : tie.Need-loop-holds Inv-loop μ-loop
 loop-holds c = (omega arith, refl, seat-none _ _ _ _)
 
-spot-of-requires : tie.Need-spot-of-requires Inv-loop μ-loop
-spot-of-requires c κs = search needs
-
-mul-if1 : tie.Need-mul-if1 Inv-loop μ-loop
-mul-if1 c = search needs
-
-slice-read-if1 : tie.Need-slice-read-if1 Inv-loop μ-loop
-slice-read-if1 c = search needs
-
-same-length : tie.Need-same-length Inv-loop μ-loop
-same-length c = search needs
-
 returns : tie.Need-returns Inv-loop μ-loop
 returns c =
     let l = c .before .before .before .before .loop in
     record { most = l .inv .0; seats = l .inv .2; stuck = λ _. seat-stuck _ _ _ _ _ _ _ (c .before .before .spot-of .ensures .0) (l .inv .2) (c .if1 .taken) }
-
-mul-slots : tie.Need-mul-slots Inv-loop μ-loop
-mul-slots c = search needs
-
-shared-slice-read-slots : tie.Need-shared-slice-read-slots Inv-loop μ-loop
-shared-slice-read-slots c = search needs
 
 add-slots : tie.Need-add-slots Inv-loop μ-loop
 add-slots c =
@@ -56,25 +38,10 @@ cast-slots c =
     let loop-test = c .before .before .before .before .loop-test in
     omega (arith, (pre .of .keys (loop .j) (loop-test .taken)), pre .of .most)
 
-mul-slots-2 : tie.Need-mul-slots-2 Inv-loop μ-loop
-mul-slots-2 c = search needs
-
-slice-write-slots : tie.Need-slice-write-slots Inv-loop μ-loop
-slice-write-slots c = search needs
-
-add-j : tie.Need-add-j Inv-loop μ-loop
-add-j c = search needs
-
-loop-less : tie.Need-loop-less Inv-loop μ-loop
-loop-less c = search needs
-
 loop-again : tie.Need-loop-again Inv-loop μ-loop
 loop-again c =
     let l = c .before .before .before .before .before .loop in
     (omega arith, simp length-set (l .inv .1), seat-more _ _ _ _ _ _ _ (c .before .before .before .spot-of .ensures .0) (l .inv .2) (c .before .if1 .left))
-
-same-length-2 : tie.Need-same-length-2 Inv-loop μ-loop
-same-length-2 c = search needs
 
 returns-2 : tie.Need-returns-2 Inv-loop μ-loop
 returns-2 c =
@@ -88,19 +55,19 @@ seat-members-spec =
     Inv-loop
     μ-loop
     loop-holds
-    spot-of-requires
-    mul-if1
-    slice-read-if1
-    same-length
+    (λ c κs. search needs)
+    (λ c. search needs)
+    (λ c. search needs)
+    (λ c. search needs)
     returns
-    mul-slots
-    shared-slice-read-slots
+    (λ c. search needs)
+    (λ c. search needs)
     add-slots
     cast-slots
-    mul-slots-2
-    slice-write-slots
-    add-j
-    loop-less
+    (λ c. search needs)
+    (λ c. search needs)
+    (λ c. search needs)
+    (λ c. search needs)
     loop-again
-    same-length-2
+    (λ c. search needs)
     returns-2)

@@ -17,31 +17,10 @@ Inv-loop hs ms slots₀ pilot count j₀ slots j = (j ≤ length ms) × (length 
 abbrev μ-loop : tie.MeasureT-loop
 μ-loop hs ms slots₀ pilot count j₀ slots j = j
 
-loop-holds : tie.Need-loop-holds Inv-loop μ-loop
-loop-holds c = search needs
-
-sub-j : tie.Need-sub-j Inv-loop μ-loop
-sub-j c = search needs
-
-spot-of-requires : tie.Need-spot-of-requires Inv-loop μ-loop
-spot-of-requires c κs = search needs
-
-mul-slots : tie.Need-mul-slots Inv-loop μ-loop
-mul-slots c = search needs
-
-slice-write-slots : tie.Need-slice-write-slots Inv-loop μ-loop
-slice-write-slots c = search needs
-
-loop-less : tie.Need-loop-less Inv-loop μ-loop
-loop-less c = search needs
-
 loop-again : tie.Need-loop-again Inv-loop μ-loop
 loop-again c =
     let l = c .before .before .loop in
     (omega arith, simp length-set (l .inv .1), λ s h. seat-back _ _ _ _ _ _ _ (c .before .loop-test .taken) (c .spot-of .ensures .0) (l .inv .2 s h))
-
-same-length : tie.Need-same-length Inv-loop μ-loop
-same-length c = search needs
 
 returns : tie.Need-returns Inv-loop μ-loop
 returns c = λ s h. seat-off _ _ _ _ _ _ (c .loop-test .left) (c .before .loop .inv .2 s h)
@@ -52,12 +31,12 @@ unseat-spec =
     (tie.spec
     Inv-loop
     μ-loop
-    loop-holds
-    sub-j
-    spot-of-requires
-    mul-slots
-    slice-write-slots
-    loop-less
+    (λ c. search needs)
+    (λ c. search needs)
+    (λ c κs. search needs)
+    (λ c. search needs)
+    (λ c. search needs)
+    (λ c. search needs)
     loop-again
-    same-length
+    (λ c. search needs)
     returns)

@@ -38,12 +38,6 @@ returns c =
     let single-of = c .before .before .before .single-of in
     so-far-fails _ _ _ _ _ _ (single-of .last .1 .0) false (loop .inv .2) (single-of .ensures .failed (c .if1 .taken)) _ (omega (arith, loop-test .taken, bench-buckets _ _ _ _ pre)) refl
 
-add-k : tie.Need-add-k Inv-loop μ-loop
-add-k c = search needs
-
-loop-less : tie.Need-loop-less Inv-loop μ-loop
-loop-less c = omega arith
-
 loop-again : tie.Need-loop-again Inv-loop μ-loop
 loop-again c =
     let e = c .before .before .before .single-of .ensures in
@@ -71,8 +65,8 @@ place-singles-spec =
     single-of-requires
     same-length
     returns
-    add-k
-    loop-less
+    (λ c. search needs)
+    (λ c. omega arith)
     loop-again
     same-length-2
     returns-2)

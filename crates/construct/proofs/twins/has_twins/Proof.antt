@@ -20,20 +20,11 @@ abbrev μ-loop : tie.MeasureT-loop
 loop-holds : tie.Need-loop-holds Inv-loop μ-loop
 loop-holds c = (omega arith, any-none _)
 
-met-before-requires : tie.Need-met-before-requires Inv-loop μ-loop
-met-before-requires c κs = search needs
-
 returns : tie.Need-returns Inv-loop μ-loop
 unfolding twins
 returns c =
     let l = c .before .before .before .loop in
     sym (any-some _ (l .j) _ (c .before .before .loop-test .taken) (sym (c .before .met-before .ensures) ∙ c .if1 .taken))
-
-add-j : tie.Need-add-j Inv-loop μ-loop
-add-j c = search needs
-
-loop-less : tie.Need-loop-less Inv-loop μ-loop
-loop-less c = search needs
 
 loop-again : tie.Need-loop-again Inv-loop μ-loop
 loop-again c =
@@ -53,9 +44,9 @@ has-twins-spec =
     Inv-loop
     μ-loop
     loop-holds
-    met-before-requires
+    (λ c κs. search needs)
     returns
-    add-j
-    loop-less
+    (λ c. search needs)
+    (λ c. search needs)
     loop-again
     returns-2)

@@ -17,14 +17,8 @@ Inv-loop hs ms j x i₀ i = (i ≤ j) × (anyBelow (alike hs ms j) i ≡ false)
 abbrev μ-loop : tie.MeasureT-loop
 μ-loop hs ms j x i₀ i = j - i
 
-hash-of-requires : tie.Need-hash-of-requires Inv-loop μ-loop
-hash-of-requires c κs = search needs
-
 loop-holds : tie.Need-loop-holds Inv-loop μ-loop
 loop-holds c = (omega arith, any-none _)
-
-hash-of-requires-2 : tie.Need-hash-of-requires-2 Inv-loop μ-loop
-hash-of-requires-2 c κs = search needs
 
 returns : tie.Need-returns Inv-loop μ-loop
 unfolding met alike
@@ -34,12 +28,6 @@ returns c =
     let loop-test = c .before .before .loop-test in
     let hash-of2 = c .before .hash-of2 in
     sym (any-some _ (l .i) _ (loop-test .taken) (eq-eqb _ _ (sym (hash-of2 .ensures) ∙ c .if1 .taken ∙ hash-of .ensures)))
-
-add-i : tie.Need-add-i Inv-loop μ-loop
-add-i c = search needs
-
-loop-less : tie.Need-loop-less Inv-loop μ-loop
-loop-less c = omega arith
 
 loop-again : tie.Need-loop-again Inv-loop μ-loop
 unfolding alike
@@ -61,11 +49,11 @@ met-before-spec =
     (tie.spec
     Inv-loop
     μ-loop
-    hash-of-requires
+    (λ c κs. search needs)
     loop-holds
-    hash-of-requires-2
+    (λ c κs. search needs)
     returns
-    add-i
-    loop-less
+    (λ c. search needs)
+    (λ c. omega arith)
     loop-again
     returns-2)

@@ -25,23 +25,8 @@ abbrev μ-loop : tie.MeasureT-loop
 loop-holds : tie.Need-loop-holds Inv-loop μ-loop
 loop-holds c = (omega arith, refl, sym (entry-first _), λ m l. refl, λ m l. absurd (omega arith))
 
-add-wide : tie.Need-add-wide Inv-loop μ-loop
-add-wide c = search needs
-
-mul-wide : tie.Need-mul-wide Inv-loop μ-loop
-mul-wide c = search needs
-
-slice-write-wide : tie.Need-slice-write-wide Inv-loop μ-loop
-slice-write-wide c = search needs
-
 next-entry-requires : tie.Need-next-entry-requires Inv-loop μ-loop
 next-entry-requires c κs = entry-inside _ _ (c .before .loop .i) _ (c .before .before .before .before .pre .0) (c .before .loop .inv .2) (c .loop-test .taken)
-
-add-i : tie.Need-add-i Inv-loop μ-loop
-add-i c = search needs
-
-loop-less : tie.Need-loop-less Inv-loop μ-loop
-loop-less c = search needs
 
 loop-again : tie.Need-loop-again Inv-loop μ-loop
 loop-again c =
@@ -49,9 +34,6 @@ loop-again c =
     let a = c .before .before .before .before .before .args in
     let m = listed-more (now (a .arena)) (l .wide) (now (a .wide)) (a .n) (l .i) (l .p) (c .before .loop-test .taken) (l .inv .1 ∙ c .before .before .before .before .before .pre .1) (l .inv .2) (l .inv .3) (l .inv .4) in
     (omega arith, simp length-set (l .inv .1), c .next-entry .ensures ∙ ap (nextEntry _) (l .inv .2) ∙ sym (entry-next _ _), m .0, m .1)
-
-same-length : tie.Need-same-length Inv-loop μ-loop
-same-length c = search needs
 
 returns : tie.Need-returns Inv-loop μ-loop
 returns c =
@@ -65,12 +47,12 @@ list-places-spec =
     Inv-loop
     μ-loop
     loop-holds
-    add-wide
-    mul-wide
-    slice-write-wide
+    (λ c. search needs)
+    (λ c. search needs)
+    (λ c. search needs)
     next-entry-requires
-    add-i
-    loop-less
+    (λ c. search needs)
+    (λ c. search needs)
     loop-again
-    same-length
+    (λ c. search needs)
     returns)

@@ -27,12 +27,6 @@ loop-holds c =
     let a = c .before .before .before .args in
     (refl, omega arith, refl, sym (row-none (listedSlot (now (a .wide)) (length (now (a .slots)))) (now (a .out)) (a .at) (now (a .slots))))
 
-mul-m : tie.Need-mul-m Inv-loop μ-loop
-mul-m c = search needs
-
-shared-slice-read-m : tie.Need-shared-slice-read-m Inv-loop μ-loop
-shared-slice-read-m c = search needs
-
 cast-m : tie.Need-cast-m Inv-loop μ-loop
 cast-m c =
     let l = c .before .before .loop in
@@ -52,12 +46,6 @@ sub-m c =
     let keys = pre .0 .keys (l .s) low in
     let long = pre .1 in
     omega arith
-
-mul-write-slot : tie.Need-mul-write-slot Inv-loop μ-loop
-mul-write-slot c = search needs
-
-add-write-slot : tie.Need-add-write-slot Inv-loop μ-loop
-add-write-slot c = search needs
 
 add-write-slot-2 : tie.Need-add-write-slot-2 Inv-loop μ-loop
 add-write-slot-2 c =
@@ -109,18 +97,6 @@ shared-slice-read-fingerprint c =
     let long = pre .1 in
     omega arith
 
-fingerprint-requires : tie.Need-fingerprint-requires Inv-loop μ-loop
-fingerprint-requires c κs = search needs
-
-write-slot-requires : tie.Need-write-slot-requires Inv-loop μ-loop
-write-slot-requires c κs = search needs
-
-add-s : tie.Need-add-s Inv-loop μ-loop
-add-s c = search needs
-
-loop-less : tie.Need-loop-less Inv-loop μ-loop
-loop-less c = search needs
-
 loop-again : tie.Need-loop-again Inv-loop μ-loop
 unfolding listedSlot
 loop-again c =
@@ -142,9 +118,6 @@ loop-again c =
           ∙ row-more (listedSlot (now (a .wide)) n) 12 (listed-long (now (a .wide)) n) (now (a .out)) (a .at) (now (a .slots)) (l .s) low room,
     )
 
-same-length : tie.Need-same-length Inv-loop μ-loop
-same-length c = search needs
-
 returns : tie.Need-returns Inv-loop μ-loop
 returns c =
     let l = c .before .loop in
@@ -159,21 +132,21 @@ write-slots-spec =
     Inv-loop
     μ-loop
     loop-holds
-    mul-m
-    shared-slice-read-m
+    (λ c. search needs)
+    (λ c. search needs)
     cast-m
     sub-m
-    mul-write-slot
-    add-write-slot
+    (λ c. search needs)
+    (λ c. search needs)
     add-write-slot-2
     mul-write-slot-2
     shared-slice-read-write-slot
     mul-fingerprint
     shared-slice-read-fingerprint
-    fingerprint-requires
-    write-slot-requires
-    add-s
-    loop-less
+    (λ c κs. search needs)
+    (λ c κs. search needs)
+    (λ c. search needs)
+    (λ c. search needs)
     loop-again
-    same-length
+    (λ c. search needs)
     returns)

@@ -21,26 +21,11 @@ abbrev μ-loop : tie.MeasureT-loop
 loop-holds : tie.Need-loop-holds Inv-loop μ-loop
 loop-holds c = (refl, omega arith, any-none _)
 
-mul-unmatched : tie.Need-mul-unmatched Inv-loop μ-loop
-mul-unmatched c = search needs
-
-shared-slice-read-unmatched : tie.Need-shared-slice-read-unmatched Inv-loop μ-loop
-shared-slice-read-unmatched c = search needs
-
-unmatched-requires : tie.Need-unmatched-requires Inv-loop μ-loop
-unmatched-requires c κs = search needs
-
 returns : tie.Need-returns Inv-loop μ-loop
 unfolding mismatch
 returns c =
     let l = c .before .before .before .before .loop in
     sym (any-some _ (l .s) _ (omega arith) (unmatched-at _ _ _ _ _ _ (l .inv .0) (c .before .unmatched .ensures) ∙ c .if1 .taken))
-
-add-s : tie.Need-add-s Inv-loop μ-loop
-add-s c = search needs
-
-loop-less : tie.Need-loop-less Inv-loop μ-loop
-loop-less c = search needs
 
 loop-again : tie.Need-loop-again Inv-loop μ-loop
 loop-again c =
@@ -60,11 +45,11 @@ mismatch-spec =
     Inv-loop
     μ-loop
     loop-holds
-    mul-unmatched
-    shared-slice-read-unmatched
-    unmatched-requires
+    (λ c. search needs)
+    (λ c. search needs)
+    (λ c κs. search needs)
     returns
-    add-s
-    loop-less
+    (λ c. search needs)
+    (λ c. search needs)
     loop-again
     returns-2)

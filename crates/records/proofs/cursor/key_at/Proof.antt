@@ -7,18 +7,6 @@ use Rattle.records.specs.Places.{keyLength, keyAt}
 use Rattle.records.proofs.cursor.key_at.Statement.{statement}
 use Rattle.records.proofs.cursor.key_at.Tie as tie
 
-add-to : tie.Need-add-to
-add-to c = omega arith
-
-sub-result : tie.Need-sub-result
-sub-result c = omega arith
-
-part-result-start : tie.Need-part-result-start
-part-result-start c = omega arith
-
-part-result-end : tie.Need-part-result-end
-part-result-end c = omega arith
-
 returns : tie.Need-returns
 unfolding keyAt
 returns c =
@@ -33,8 +21,8 @@ key-at-spec =
     (λ c. search needs)
     (λ c κs. search needs)
     (λ c. search needs)
-    add-to
-    sub-result
-    part-result-start
-    part-result-end
+    (λ c. omega arith)
+    (λ c. omega arith)
+    (λ c. omega arith)
+    (λ c. omega arith)
     returns)
