@@ -14,8 +14,7 @@ use lib.Dec.{eqb}
 use borrow.Author.Tests.{ne-eqb}
 use Rattle.laws.specs.Refusals.{orElse, Numbered}
 use Rattle.laws.specs.Refusals.Numbered.{numbered-none, numbered-more}
-use Rattle.laws.proofs.RefusalLaws.{orElse-stop}
-use Rattle.layout.proofs.HeaderLaws.{first-append}
+use Rattle.laws.proofs.RefusalLaws.{first-append, orElse-stop}
 use Rattle.words.specs.Field.{splice}
 use Rattle.mixing.specs.Mixing.{hashOf, seedOf}
 use Rattle.mixing.proofs.SlotLaws.{few-buckets}

@@ -3,7 +3,7 @@ use Prim.Native.Nat.{ℕ, zero, suc, _<_}
 use native.Mathlib.Nat.{suc-ne-zero}
 use native.Mathlib.Omega.{arith}
 use mathlib.Core.Bool.{Bool, true, false, cond}
-use mathlib.Core.List.{List, [], _∷_}
+use mathlib.Core.List.{List, [], _∷_, _++_}
 use mathlib.Core.Path.{_≡_, refl, sym, ap, _∙_}
 use Rattle.laws.specs.Refusals.{Cause, firstOf, orElse, First, here, later, None, none-here, none-more, Numbered, numbered-none, numbered-more, FirstOfTwo, by-first, by-second}
 
@@ -61,3 +61,14 @@ two-given n a b h (by-second z e) = ap (λ (x : ℕ). orElse x b) z ∙ e
 pub two-only : (n a b : ℕ) → orElse a b ≡ n → FirstOfTwo n a b
 two-only n zero b e = by-second refl e
 two-only n (suc a) b e = by-first e
+
+-- ---- two rows, one after the other
+
+-- the first of two rows of tests
+pub first-append : (cs ds : List Cause) → Numbered cs → firstOf (cs ++ ds) ≡ orElse (firstOf cs) (firstOf ds)
+first-append [] ds numbered-none = refl
+first-append (c ∷ cs) ds (numbered-more p r) = go (c .holds) (first-append cs ds r)
+  where
+    go : (t : Bool) → firstOf (cs ++ ds) ≡ orElse (firstOf cs) (firstOf ds) → cond t (c .number) (firstOf (cs ++ ds)) ≡ orElse (cond t (c .number) (firstOf cs)) (firstOf ds)
+    go true e = sym (orElse-stop (c .number) (firstOf ds) (λ z. omega arith))
+    go false e = e

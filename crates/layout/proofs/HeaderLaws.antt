@@ -8,9 +8,9 @@ use mathlib.Core.Bool.{Bool, true, false, not, cond}
 use lib.ListN.{length, take, length-append}
 use lib.Dec.{ltb, leb, eqb, lit<}
 use borrow.Author.Tests.{ltb-false, leb-false, eqb-true, eqb-false, not-false, lt-ltb, le-ltb, lt-leb, eq-eqb, ne-eqb}
-use Rattle.laws.specs.Refusals.{Cause, cause, firstOf, orElse, Numbered}
+use Rattle.laws.specs.Refusals.{cause, orElse}
 use Rattle.laws.specs.Refusals.Numbered.{numbered-none, numbered-more}
-use Rattle.laws.proofs.RefusalLaws.{orElse-stop, orElse-zero}
+use Rattle.laws.proofs.RefusalLaws.{first-append, orElse-stop, orElse-zero}
 use Rattle.words.specs.Field.{le, bytesOf, splice}
 use Rattle.words.proofs.Laws.{length-bytesOf, splice-then}
 use Rattle.words.proofs.Ordered.{same-self}
@@ -25,15 +25,6 @@ use Rattle.layout.specs.Layout.{indexMagic, seedIn, keysIn, bucketsIn, a
 pub passes : (t : Bool) (r x : ℕ) → cond t (suc r) x ≡ 0 → (t ≡ false) × (x ≡ 0)
 passes true r x e = absurd (suc-ne-zero _ e)
 passes false r x e = (refl, e)
-
--- the first of two rows of tests
-pub first-append : (cs ds : List Cause) → Numbered cs → firstOf (cs ++ ds) ≡ orElse (firstOf cs) (firstOf ds)
-first-append [] ds numbered-none = refl
-first-append (c ∷ cs) ds (numbered-more p r) = go (c .holds) (first-append cs ds r)
-  where
-    go : (t : Bool) → firstOf (cs ++ ds) ≡ orElse (firstOf cs) (firstOf ds) → cond t (c .number) (firstOf (cs ++ ds)) ≡ orElse (cond t (c .number) (firstOf cs)) (firstOf ds)
-    go true e = sym (orElse-stop (c .number) (firstOf ds) (λ z. omega arith))
-    go false e = e
 
 -- ---- 20 and 21
 
