@@ -20,7 +20,7 @@ use Rattle.builder.specs.declared.Added.{Added}
 use Rattle.builder.specs.declared.Added.the-variants.{Refused}
 use Rattle.builder.specs.State.{fits, lastOf, roomOf}
 use Rattle.builder.proofs.StateLaws.{fits-known, fits-inside}
-use Rattle.builder.specs.Add.{Call, risesAfter, newCauses, continuedCauses, appendingCauses, takingCauses, addCauses, addRefusal, Sized, AddOpened, Continued, nextState, appended, addOf, bufferAfterAdd, AddPost}
+use Rattle.builder.specs.Add.{Call, risesAfter, newCauses, continuedCauses, appendingCauses, takingCauses, addCauses, addRefusal, Sized, NewPasses, ContinuedPasses, nextState, appended, addOf, bufferAfterAdd, AddPost}
 use Rattle.builder.specs.Inner.Append.{AppendPost}
 
 -- a key beside the last one
@@ -52,7 +52,7 @@ module _ (s : PointBuilder) (buffer : List ℕ) (call : Call) where
 
   -- ---- a call that no cause refuses
 
-  opened-from : call .newKey ≡ true → None (newCauses s (lastOf s buffer) (roomOf s buffer) (call .key)) → AddOpened s buffer call
+  opened-from : call .newKey ≡ true → None (newCauses s (lastOf s buffer) (roomOf s buffer) (call .key)) → NewPasses s buffer call
   unfolding newCauses
   opened-from w (none-more r (none-more n (none-more m none-here))) = record {
     newly = w;
@@ -62,10 +62,10 @@ module _ (s : PointBuilder) (buffer : List ℕ) (call : Call) where
   }
 
   -- of a new key
-  pub new-passed : addRefusal s buffer call ≡ 0 → call .newKey ≡ true → Sized s buffer call × AddOpened s buffer call
+  pub new-passed : addRefusal s buffer call ≡ 0 → call .newKey ≡ true → Sized s buffer call × NewPasses s buffer call
   new-passed e w = let p = sized-passed e in (p .0, opened-from w (rw w at (p .1)))
 
-  continued-from : call .newKey ≡ false → None (continuedCauses s (lastOf s buffer) (roomOf s buffer) (call .key) (call .sequence)) → Continued s buffer call
+  continued-from : call .newKey ≡ false → None (continuedCauses s (lastOf s buffer) (roomOf s buffer) (call .key) (call .sequence)) → ContinuedPasses s buffer call
   unfolding continuedCauses
   continued-from w (none-more a (none-more r (none-more o (none-more n (none-more m none-here))))) = record {
     further = w;
@@ -77,7 +77,7 @@ module _ (s : PointBuilder) (buffer : List ℕ) (call : Call) where
   }
 
   -- of a continued key
-  pub continued-passed : addRefusal s buffer call ≡ 0 → call .newKey ≡ false → Sized s buffer call × Continued s buffer call
+  pub continued-passed : addRefusal s buffer call ≡ 0 → call .newKey ≡ false → Sized s buffer call × ContinuedPasses s buffer call
   continued-passed e w = let p = sized-passed e in (p .0, continued-from w (rw w at (p .1)))
 
   -- what the two ways of appending ask

@@ -22,7 +22,7 @@ use Rattle.builder.specs.declared.PointBuilder.{PointBuilder}
 use Rattle.builder.specs.declared.Added.the-variants as added
 use Rattle.builder.specs.declared.OffsetSet.the-variants as offset-set
 use Rattle.builder.specs.State.{lastOf, roomOf}
-use Rattle.builder.specs.Add.{Call, newCauses, continuedCauses, addCauses, addRefusal, Sized, AddOpened, Continued, nextState, nextPlace, recordOf, newEntry, newBuffer, continuedBuffer, appended, addOf, bufferAfterAdd, addedNumber, stateValues, addedValues}
+use Rattle.builder.specs.Add.{Call, newCauses, continuedCauses, addCauses, addRefusal, Sized, NewPasses, ContinuedPasses, nextState, nextPlace, recordOf, newEntry, newBuffer, continuedBuffer, appended, addOf, bufferAfterAdd, addedNumber, stateValues, addedValues}
 use Rattle.builder.specs.SetOffset.{setCauses, setOf, bufferAfterSet, setNumber}
 use Rattle.builder.proofs.StateLaws.{fits-known}
 use Rattle.builder.proofs.AddLaws.{add-numbered, sized-none, sized-first, new-ready, continued-ready}
@@ -87,14 +87,14 @@ module _ (s : PointBuilder) (buffer : List ℕ) (call : Call) where
   refused-values f = let e = add-refuses f .0 in (ap stateValues e, ap addedValues e)
 
   -- THEOREM: a new key that breaks no rule and has room is taken
-  pub new-taken : Sized s buffer call → AddOpened s buffer call → addOf s buffer call ≡ added.Taken (nextState s call) (nextPlace s call)
+  pub new-taken : Sized s buffer call → NewPasses s buffer call → addOf s buffer call ≡ added.Taken (nextState s call) (nextPlace s call)
   unfolding newCauses
   new-taken k o =
       add-takes (sized-none k (rw (o .newly)
       (none-more (ap not (o .rising)) (none-more (lt-leb mostKeys (s .keys) (o .few)) (none-more (le-ltb (roomOf s buffer) (29 + length (call .key)) (o .room)) none-here))))) .0
 
   -- THEOREM: a continued key that breaks no rule and has room is taken
-  pub continued-taken : Sized s buffer call → Continued s buffer call → addOf s buffer call ≡ added.Taken (nextState s call) (nextPlace s call)
+  pub continued-taken : Sized s buffer call → ContinuedPasses s buffer call → addOf s buffer call ≡ added.Taken (nextState s call) (nextPlace s call)
   unfolding continuedCauses
   continued-taken k o =
       add-takes (sized-none k (rw (o .further)

@@ -23,7 +23,7 @@ use Rattle.records.proofs.WriteLaws.{entry-size}
 use Rattle.builder.specs.declared.PointBuilder.{PointBuilder}
 use Rattle.builder.specs.declared.Added.the-variants as added
 use Rattle.builder.specs.State.{emptyBuilder, lastOf, fits}
-use Rattle.builder.specs.Add.{Call, risesAfter, Sized, AddOpened, Continued, recordOf, newEntry, nextState, nextPlace, addOf, bufferAfterAdd}
+use Rattle.builder.specs.Add.{Call, risesAfter, Sized, NewPasses, ContinuedPasses, recordOf, newEntry, nextState, nextPlace, addOf, bufferAfterAdd}
 use Rattle.builder.specs.SetOffset.{setCauses, bufferAfterSet}
 use Rattle.builder.specs.Taken.{entry, ending, KeyBytes, onLast, withVersion, withOffset, withLastOffset, tableAfterAdd, tableAfterSet, taken-none, taken-added, taken-set, TakenInto}
 use Rattle.builder.proofs.AddLaws.{rises-known}
@@ -114,7 +114,7 @@ module _ (buffer : List ℕ) where
         let c : s .keys ≡ length front = taken-facts (I .taken) .counted in
         let u : s .used ≡ length (tableBytes front) = ap (λ (x : PointBuilder). x .used) (taken-state (I .taken)) in
         let w : length b ≡ length buffer = I .whole in
-        let o : AddOpened s b (adding key r true) =
+        let o : NewPasses s b (adding key r true) =
         record { newly = refl; rising = rising-of s b front (entry key (r ∷ [])) (taken-held (I .taken)) rising; few = omega arith; room = omega arith } in
         let a = newEntry key (recordOf (adding key r true)) in
         let n : length (front ++ (a ∷ [])) ≡ length front + 1 = length-append front (a ∷ []) in
@@ -132,7 +132,7 @@ module _ (buffer : List ℕ) where
         let u : s .used ≡ length (tableBytes (ending front key before last)) = ap (λ (x : PointBuilder). x .used) (taken-state (I .taken)) in
         let w : length b ≡ length buffer = I .whole in
         let l = taken-last front key before last (I .taken) in
-        let o : Continued s b (adding key r false) =
+        let o : ContinuedPasses s b (adding key r false) =
         record { further = refl; keyed = l .0; same = rw (l .1) (same-self key); older = rw (l .1) below; countable = rw (l .1) countable; room = omega arith } in
         let vs = before ++ (last ∷ []) in
         let v = recordOf (adding key r false) in

@@ -84,14 +84,14 @@ pub record Sized (s : PointBuilder) (buffer : List ℕ) (call : Call) : Type 0 w
   pub valued : fullTombstone (kindByte (call .kind)) (call .size) ≡ false
 
 -- a new key that passes 4, 5 and 6
-pub record AddOpened (s : PointBuilder) (buffer : List ℕ) (call : Call) : Type 0 where
+pub record NewPasses (s : PointBuilder) (buffer : List ℕ) (call : Call) : Type 0 where
   pub newly : call .newKey ≡ true
   pub rising : risesAfter s (lastOf s buffer) (call .key) ≡ true
   pub few : s .keys < mostKeys
   pub room : 29 + length (call .key) ≤ roomOf s buffer
 
 -- a continued key that passes them
-pub record Continued (s : PointBuilder) (buffer : List ℕ) (call : Call) : Type 0 where
+pub record ContinuedPasses (s : PointBuilder) (buffer : List ℕ) (call : Call) : Type 0 where
   pub further : call .newKey ≡ false
   pub keyed : s .keys ≡ 0 → ⊥
   pub same : sameAs (lastOf s buffer .key) (call .key) ≡ true
