@@ -112,9 +112,9 @@ module _ {s : PointBuilder} {buffer : List ℕ} {call : Call} where
 
   -- ---- the answer and the buffer, from the refusal
 
-  pub add-refused : {n : ℕ} → n ≡ addRefusal s buffer call → (n ≡ 0 → ⊥) → AddPost s buffer call (Refused n) buffer
+  pub add-stopped : {n : ℕ} → n ≡ addRefusal s buffer call → (n ≡ 0 → ⊥) → AddPost s buffer call (Refused n) buffer
   unfolding addOf bufferAfterAdd
-  add-refused {n} e ne = record { answer = rw (← e, ne-eqb n 0 ne); buffer = rw (← e, ne-eqb n 0 ne) }
+  add-stopped {n} e ne = record { answer = rw (← e, ne-eqb n 0 ne); buffer = rw (← e, ne-eqb n 0 ne) }
 
   pub add-appended : {r : Added} {after : List ℕ} → addRefusal s buffer call ≡ 0 → AppendPost (nextState s call) (appended s buffer call) r after → AddPost s buffer call r after
   unfolding addOf bufferAfterAdd

@@ -78,8 +78,8 @@ module _ (s : PointBuilder) (buffer : List ℕ) (place : ℕ) where
       (not-false (fits s buffer) f, eqb-false (s .keys) 0 k, eqb-true place (s .used - 8) (not-false (eqb place (s .used - 8)) p))
 
   -- an offset that no cause refuses
-  pub set-passed : setRefusal s buffer place ≡ 0 → (fits s buffer ≡ true) × (s .keys ≡ 0 → ⊥) × (place ≡ s .used - 8)
-  set-passed e = none-set (none-only set-numbered e)
+  pub set-unrefused : setRefusal s buffer place ≡ 0 → (fits s buffer ≡ true) × (s .keys ≡ 0 → ⊥) × (place ≡ s .used - 8)
+  set-unrefused e = none-set (none-only set-numbered e)
 
   pub buffer-set : (offset : ℕ) → setRefusal s buffer place ≡ 0 → bufferAfterSet s buffer place offset ≡ splice buffer place (bytesOf 8 offset)
   unfolding bufferAfterSet

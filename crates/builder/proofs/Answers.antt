@@ -26,7 +26,7 @@ use Rattle.builder.specs.Add.{Call, newCauses, continuedCauses, addCause
 use Rattle.builder.specs.SetOffset.{setCauses, setOf, bufferAfterSet, setNumber}
 use Rattle.builder.proofs.StateLaws.{fits-known}
 use Rattle.builder.proofs.AddLaws.{add-numbered, sized-none, sized-first, new-ready, continued-ready}
-use Rattle.builder.proofs.AnswerLaws.{taken-known, taken-given, buffer-taken, refused-known, refused-given, add-number, set-numbered, set-passed, set-known, set-given, buffer-set, unset-known, unset-given, set-number}
+use Rattle.builder.proofs.AnswerLaws.{taken-known, taken-given, buffer-taken, refused-known, refused-given, add-number, set-numbered, set-unrefused, set-known, set-given, buffer-set, unset-known, unset-given, set-number}
 
 positive : (n : ℕ) → (n ≡ 0 → ⊥) → 0 < n
 positive n h = omega arith
@@ -76,15 +76,15 @@ module _ (s : PointBuilder) (buffer : List ℕ) (call : Call) where
   cause-add n f = add-number _ _ _ ∙ first-given f
 
   -- THEOREM: the number of a record taken is 0, and its values are the next state's words and the patch place
-  pub taken-values : None (addCauses s buffer call)
+  pub add-values : None (addCauses s buffer call)
       → (addedNumber (addOf s buffer call) ≡ 0)
       × (stateValues (addOf s buffer call) ≡ nextState s call .used ∷ nextState s call .keys ∷ nextState s call .head ∷ [])
       × (addedValues (addOf s buffer call) ≡ nextPlace s call ∷ [])
-  taken-values f = let e = add-takes f .0 in (ap addedNumber e, ap stateValues e, ap addedValues e)
+  add-values f = let e = add-takes f .0 in (ap addedNumber e, ap stateValues e, ap addedValues e)
 
   -- THEOREM: a refusal has no values
-  pub refused-values : {n : ℕ} → First n (addCauses s buffer call) → (stateValues (addOf s buffer call) ≡ []) × (addedValues (addOf s buffer call) ≡ [])
-  refused-values f = let e = add-refuses f .0 in (ap stateValues e, ap addedValues e)
+  pub add-refused-values : {n : ℕ} → First n (addCauses s buffer call) → (stateValues (addOf s buffer call) ≡ []) × (addedValues (addOf s buffer call) ≡ [])
+  add-refused-values f = let e = add-refuses f .0 in (ap stateValues e, ap addedValues e)
 
   -- THEOREM: a new key that breaks no rule and has room is taken
   pub new-taken : Sized s buffer call → NewPasses s buffer call → addOf s buffer call ≡ added.Taken (nextState s call) (nextPlace s call)
@@ -170,7 +170,7 @@ module _ (s : PointBuilder) (buffer : List ℕ) (place offset : ℕ) where
   pub set-untouched : setOf s buffer place ≡ offset-set.Set → (drop (s .used) (bufferAfterSet s buffer place offset) ≡ drop (s .used) buffer) × (length (bufferAfterSet s buffer place offset) ≡ length buffer)
   set-untouched e =
       let z = set-known s buffer place e in
-      let p = set-passed s buffer place z in
+      let p = set-unrefused s buffer place z in
       let f = fits-known s buffer (p .1) (p .0) in
       let q = p .2 in
       let l : length (bytesOf 8 offset) ≡ 8 = length-bytesOf 8 offset in

@@ -96,11 +96,11 @@ module _ (s : PointBuilder) (buffer : List ℕ) (front : List Entry) (key : List
   unfolding lastOf
   last-read = rw (read-key, read-sequence, read-count)
 
-  pub keyed : s .keys ≡ 0 → ⊥
-  keyed z = let c = st .counted in omega arith
+  pub state-keyed : s .keys ≡ 0 → ⊥
+  state-keyed z = let c = st .counted in omega arith
 
-  pub fitting : Fitting s buffer
-  fitting =
+  pub state-fitting : Fitting s buffer
+  state-fitting =
       let r = entry-rules in
       let small = r .small in
       let some = r .some in

@@ -29,7 +29,7 @@ use Rattle.builder.specs.Taken.{entry, ending, KeyBytes, onLast, withVer
 use Rattle.builder.proofs.AddLaws.{rises-known}
 use Rattle.builder.proofs.ListLaws.{last-changed, falls-end, rises-end, rises-front, rises-last}
 use Rattle.builder.proofs.BodyLaws.{table-last, table-append}
-use Rattle.builder.proofs.HeldLaws.{read-key, keyed}
+use Rattle.builder.proofs.HeldLaws.{read-key, state-keyed}
 use Rattle.builder.proofs.StepLaws.{valued-empty}
 use Rattle.builder.proofs.TakenTheorems.{Held, held-none, held-some, taken-held, taken-facts, taken-state, taken-last}
 use Rattle.builder.proofs.Answers.{drop-later, new-taken, continued-taken, add-untouched, set-takes, set-untouched}
@@ -41,7 +41,7 @@ unfolding risesAfter
 rising-of s buffer table e held-none g = refl
 rising-of s buffer table e (held-some front lastKey before last st) g =
     sym
-    (rises-known s buffer (e .key) (keyed s buffer front lastKey before last st) Less
+    (rises-known s buffer (e .key) (state-keyed s buffer front lastKey before last st) Less
     (ap (λ (k : List ℕ). orderOf k (e .key)) (read-key s buffer front lastKey before last st)
     ∙ rises-end front (entry lastKey (before ++ (last ∷ []))) e g))
 

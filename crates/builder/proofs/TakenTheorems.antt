@@ -23,9 +23,9 @@ use Rattle.builder.specs.SetOffset.{setRefusal, bufferAfterSet}
 use Rattle.builder.specs.Taken.{entry, ending, KeyBytes, onLast, withVersion, withOffset, withLastOffset, tableAfterAdd, tableAfterSet, TakenList, taken-none, taken-added, taken-set, TakenFacts, stateFor}
 use Rattle.builder.proofs.StateLaws.{fits-given}
 use Rattle.builder.proofs.AddLaws.{rises-known, new-passed, continued-passed, new-ready, continued-ready}
-use Rattle.builder.proofs.AnswerLaws.{taken-known, buffer-taken, set-known, set-passed, buffer-set}
+use Rattle.builder.proofs.AnswerLaws.{taken-known, buffer-taken, set-known, set-unrefused, buffer-set}
 use Rattle.builder.proofs.ListLaws.{last-changed, each-last, each-changed, rises-on}
-use Rattle.builder.proofs.HeldLaws.{Standing, read-key, last-read, keyed, fitting}
+use Rattle.builder.proofs.HeldLaws.{Standing, read-key, last-read, state-keyed, state-fitting}
 use Rattle.builder.proofs.StepLaws.{record-rules, new-stands, continued-stands, set-stands}
 
 -- the state and the buffer hold a table: nothing added, or a last record
@@ -38,7 +38,7 @@ pub new-greater : (s : PointBuilder) (buffer : List ℕ) (front : List Entry) (l
     → Standing s buffer front lastKey before last → (key : List ℕ) → risesAfter s (lastOf s buffer) key ≡ true → orderOf lastKey key ≡ Less
 new-greater s buffer front lastKey before last st key r =
     less-is (orderOf lastKey key)
-    (rises-known s buffer key (keyed s buffer front lastKey before last st) (orderOf lastKey key)
+    (rises-known s buffer key (state-keyed s buffer front lastKey before last st) (orderOf lastKey key)
     (ap (λ (k : List ℕ). orderOf k key) (read-key s buffer front lastKey before last st)) ∙ r)
 
 -- ---- each way keeps it
@@ -79,9 +79,9 @@ module _ (buffer : List ℕ) (call : Call) (q : call .sequence < 2 ^ 64) where
 
 pub held-set : (s : PointBuilder) (buffer : List ℕ) (table : List Entry) (place offset : ℕ) → offset < 2 ^ 64 → Held s buffer table → setRefusal s buffer place ≡ 0 → Held s (bufferAfterSet s buffer place offset) (tableAfterSet table offset)
 unfolding tableAfterSet
-held-set s buffer table place offset h held-none z = absurd (set-passed emptyBuilder buffer place z .1 refl)
+held-set s buffer table place offset h held-none z = absurd (set-unrefused emptyBuilder buffer place z .1 refl)
 held-set s buffer table place offset h (held-some front key before last st) z =
-    let p = set-passed s buffer place z in
+    let p = set-unrefused s buffer place z in
     rw (buffer-set s buffer place offset z, last-changed (withLastOffset offset) front (entry key (before ++ (last ∷ []))), last-changed (withOffset offset) before last)
     (held-some front key before (withOffset offset last) (set-stands s buffer front key before last st offset h place (p .2)))
 
@@ -102,7 +102,7 @@ held-facts (held-some {s} {buffer} front key before last st) =
     let n : length (ending front key before last) ≡ length front + 1 = length-append front (entry key (before ++ (last ∷ [])) ∷ []) in
     let c : s .keys ≡ length (ending front key before last) = st .counted ∙ sym n in
     record {
-      fitting = fits-given s buffer (keyed s buffer front key before last st) (fitting s buffer front key before last st);
+      fitting = fits-given s buffer (state-keyed s buffer front key before last st) (state-fitting s buffer front key before last st);
       bytes = st .bytes;
       counted = c;
       few = omega (arith, st .few);
@@ -164,7 +164,7 @@ held-last front key before last (held-some {s} {buffer} front' key' before' last
     let v : before' ++ (last' ∷ []) ≡ before ++ (last ∷ []) = ap (λ (z : Entry). z .versions) x in
     let n : last' ≡ last = last-same before' before last' last v in
     let l = last-read s buffer front' key' before' last' st in
-    (keyed s buffer front' key' before' last' st, rw (← k, ← v, ← n) l)
+    (state-keyed s buffer front' key' before' last' st, rw (← k, ← v, ← n) l)
 
 pub taken-last : {s : PointBuilder} {buffer : List ℕ} (front : List Entry) (key : List ℕ) (before : List Record) (last : Record) → TakenList s buffer (ending front key before last)
     → (s .keys ≡ 0 → ⊥) × (lastOf s buffer ≡ record { key = key; sequence = last .sequence; versions = length (before ++ (last ∷ [])) })

@@ -20,9 +20,9 @@ module _ (hashes : ℕ → List ℕ) where
   unfolding constructOf attempts
   all-fail h i l = least-none (λ q. attemptOf (hashes q)) 8 0 h i (omega arith) (omega arith)
 
-  pub none-left : ((i : ℕ) → i < 8 → attemptOf (hashes i) ≡ none) → constructOf hashes ≡ none
+  pub none-attempted : ((i : ℕ) → i < 8 → attemptOf (hashes i) ≡ none) → constructOf hashes ≡ none
   unfolding constructOf attempts
-  none-left h = least-of-none (λ q. attemptOf (hashes q)) 8 h
+  none-attempted h = least-of-none (λ q. attemptOf (hashes q)) 8 h
 
   -- the attempt that is taken: it succeeds, and those before it failed
   pub first-taken : (i : ℕ) (pl : Placing) → constructOf hashes ≡ some (i, pl) → (i < 8) × (attemptOf (hashes i) ≡ some pl) × ((q : ℕ) → q < i → attemptOf (hashes q) ≡ none)
@@ -47,11 +47,11 @@ module _ (hashes : ℕ → List ℕ) where
         unanswered (some (i, pl)) z = absurd (omega arith)
 
     pub fails-ten : ((i : ℕ) → i < 8 → attemptOf (hashes i) ≡ none) → constructedNumber r ≡ 10
-    fails-ten f = ap constructedNumber (B .answer ∙ ap constructedOf (none-left f))
+    fails-ten f = ap constructedNumber (B .answer ∙ ap constructedOf (none-attempted f))
 
     -- 0, AND THE ATTEMPT, WHERE ONE IS TAKEN; 10 has no value
     pub taken-values : (i : ℕ) (pl : Placing) → constructOf hashes ≡ some (i, pl) → (constructedNumber r ≡ 0) × (constructedValues r ≡ i ∷ [])
     taken-values i pl e = let a = B .answer ∙ ap constructedOf e in (ap constructedNumber a, ap constructedValues a)
 
     pub ten-values : constructedNumber r ≡ 10 → constructedValues r ≡ []
-    ten-values e = ap constructedValues (B .answer ∙ ap constructedOf (none-left (ten-fails e)))
+    ten-values e = ap constructedValues (B .answer ∙ ap constructedOf (none-attempted (ten-fails e)))

@@ -20,7 +20,7 @@ use Rattle.laws.proofs.StepsLaws.{steps-keep, least-found, least-none, total-bu
 use Rattle.construct.specs.Construct.{bucketsOf, tries, direct, members, group, size, settle, spot, seat, Placing, pilotNoted, placeGroup, placeSingle, placeOf, placeSize, placeDown, largest, blank, anyTwins, attemptFrom, attemptOf, slotBy, indexOf}
 use Rattle.construct.specs.Promised.{AllPlaced}
 use Rattle.construct.proofs.MembersLaws.{member-key, member-at, count-all}
-use Rattle.construct.proofs.SlotsLaws.{filled, filled-none, some-free, none-free, settle-free, Grown, Since, Settled, settled, Seated, seated}
+use Rattle.construct.proofs.SlotsLaws.{slotsFilled, filled-none, some-free, none-free, settle-free, Grown, Since, Settled, settled, Seated, seated}
 
 -- while the buckets that D names are placed
 pub record Partly (hs : List ℕ) (D : ℕ → Bool) (pl : Placing) : Type 0 where
@@ -28,7 +28,7 @@ pub record Partly (hs : List ℕ) (D : ℕ → Bool) (pl : Placing) : Type 0 whe
   pub slots-long : length (pl .slots) ≡ length hs
   pub found : (i : ℕ) → i < length hs → D (bucketOf (getD hs i 0) (bucketsOf (length hs))) ≡ true → getD (pl .slots) (indexOf (getD hs i 0) (pl .pilots) (length hs)) 0 ≡ suc i
   pub holds : (a i : ℕ) → getD (pl .slots) a 0 ≡ suc i → (i < length hs) × (D (bucketOf (getD hs i 0) (bucketsOf (length hs))) ≡ true) × (indexOf (getD hs i 0) (pl .pilots) (length hs) ≡ a)
-  pub count : filled (pl .slots) ≡ total (λ k. cond (D k) (size hs k) 0) (bucketsOf (length hs))
+  pub count : slotsFilled (pl .slots) ≡ total (λ k. cond (D k) (size hs k) 0) (bucketsOf (length hs))
 
 -- a pilot below the mark goes by positionOf, one above it names its slot
 pub by-position : (h v n : ℕ) → v < direct → slotBy h v n ≡ positionOf h v n
@@ -45,9 +45,9 @@ unfolding indexOf
 index-by h pilots n b e = ap (λ (x : ℕ). slotBy h (getD pilots (bucketOf h x) 0) n) e
 
 -- every pilot that is tried is below the mark
-pub few : tries ≤ direct
+pub tries-fit : tries ≤ direct
 unfolding tries
-few = lit≤ tt
+tries-fit = lit≤ tt
 
 -- the sizes of all buckets sum up to the keys
 pub all-keys : (hs : List ℕ) → 0 < length hs → total (size hs) (bucketsOf (length hs)) ≡ length hs
@@ -126,7 +126,7 @@ module _ (hs : List ℕ) (pos : 0 < length hs) (D D′ : ℕ → Bool) (k : ℕ)
   group-joins pl pl′ w h =
       let r = map-eq-some-iff (pilotNoted k 0 pl) (least try tries 0) .0 h in
       let f = least-found try tries 0 (r .0 .0) (r .0 .1) (r .1) in
-      subst (λ (x : Placing). Partly hs D′ x) (r .2) (done (r .0 .0) (r .0 .1) (f .0) (omega (arith, f .1, few)))
+      subst (λ (x : Placing). Partly hs D′ x) (r .2) (done (r .0 .0) (r .0 .1) (f .0) (omega (arith, f .1, tries-fit)))
     where
       try : ℕ → Option (List ℕ)
       try p = seat hs (group hs k) p (size hs k) (pl .slots)
@@ -203,7 +203,7 @@ module _ (hs : List ℕ) (pos : 0 < length hs) (D D′ : ℕ → Bool) (k : ℕ)
       bump : f′ k ≡ f k + size hs k
       bump = ap (λ (t : Bool). cond t (size hs k) 0) now-so ∙ sym (ap (λ (t : Bool). cond t (size hs k) 0 + size hs k) not-yet ∙ omega arith)
 
-      room : filled (pl .slots) < length hs
+      room : slotsFilled (pl .slots) < length hs
       room = omega (arith, w .count, one, all-keys hs pos, total-mono f′ (size hs) (bucketsOf (length hs)) (λ j l. at-most (D′ j) (size hs j)), total-bump f f′ (bucketsOf (length hs)) k (size hs k) low bump (λ j z. ap (λ (t : Bool). cond t (size hs j) 0) (others j z)))
 
 -- bucket k in the pass of size s: passed over, or placed by its size
@@ -358,7 +358,7 @@ module _ (hs : List ℕ) (pos : 0 < length hs) where
           empty true x e = refl
           empty false x e = sym e
 
-      full : filled (pl .slots) ≡ length (pl .slots)
+      full : slotsFilled (pl .slots) ≡ length (pl .slots)
       full = w .count ∙ total-same (λ k. cond (done hs 0 0 k) (size hs k) 0) (size hs) (bucketsOf (length hs)) (λ k l. weight k (decLt 0 (size hs k))) ∙ all-keys hs pos ∙ sym (w .slots-long)
 
       held : (a : ℕ) → a < length hs → (x : ℕ) → getD (pl .slots) a 0 ≡ x → (i : ℕ) × (i < length hs) × (getD (pl .slots) a 0 ≡ suc i) × (indexOf (getD hs i 0) (pl .pilots) (length hs) ≡ a)

@@ -15,33 +15,33 @@ use Rattle.laws.proofs.StepsLaws.{steps-keep}
 use Rattle.construct.specs.Construct.{settle, spot, seat}
 
 -- how many slots are not free
-unfoldable pub filled : List ℕ → ℕ
-filled [] = 0
-filled (zero ∷ xs) = filled xs
-filled (suc x ∷ xs) = suc (filled xs)
+unfoldable pub slotsFilled : List ℕ → ℕ
+slotsFilled [] = 0
+slotsFilled (zero ∷ xs) = slotsFilled xs
+slotsFilled (suc x ∷ xs) = suc (slotsFilled xs)
 
-pub filled-none : (n : ℕ) → filled (replicate n 0) ≡ 0
-unfolding filled
+pub filled-none : (n : ℕ) → slotsFilled (replicate n 0) ≡ 0
+unfolding slotsFilled
 filled-none zero = refl
 filled-none (suc n) = filled-none n
 
-pub filled-set : (xs : List ℕ) (i m : ℕ) → i < length xs → getD xs i 0 ≡ 0 → filled (set xs i (suc m)) ≡ suc (filled xs)
-unfolding filled
+pub filled-set : (xs : List ℕ) (i m : ℕ) → i < length xs → getD xs i 0 ≡ 0 → slotsFilled (set xs i (suc m)) ≡ suc (slotsFilled xs)
+unfolding slotsFilled
 filled-set [] i m l e = absurd (omega arith)
 filled-set (zero ∷ xs) zero m l e = refl
 filled-set (suc x ∷ xs) zero m l e = absurd (omega arith)
 filled-set (zero ∷ xs) (suc i) m l e = filled-set xs i m (omega arith) e
 filled-set (suc x ∷ xs) (suc i) m l e = ap suc (filled-set xs i m (omega arith) e)
 
-pub filled-most : (xs : List ℕ) → filled xs ≤ length xs
-unfolding filled
+pub filled-most : (xs : List ℕ) → slotsFilled xs ≤ length xs
+unfolding slotsFilled
 filled-most [] = omega arith
 filled-most (zero ∷ xs) = omega (arith, filled-most xs)
 filled-most (suc x ∷ xs) = omega (arith, filled-most xs)
 
 -- where fewer are filled than there are, one is free
-pub some-free : (xs : List ℕ) → filled xs < length xs → (i : ℕ) × (i < length xs) × (getD xs i 0 ≡ 0)
-unfolding filled
+pub some-free : (xs : List ℕ) → slotsFilled xs < length xs → (i : ℕ) × (i < length xs) × (getD xs i 0 ≡ 0)
+unfolding slotsFilled
 some-free [] l = absurd (omega arith)
 some-free (zero ∷ xs) l = (0, omega arith, refl)
 some-free (suc x ∷ xs) l =
@@ -49,8 +49,8 @@ some-free (suc x ∷ xs) l =
     (suc (r .0), omega (arith, r .1), r .2)
 
 -- where all are filled, none is free
-pub none-free : (xs : List ℕ) → filled xs ≡ length xs → (i : ℕ) → i < length xs → getD xs i 0 ≡ 0 → ⊥
-unfolding filled
+pub none-free : (xs : List ℕ) → slotsFilled xs ≡ length xs → (i : ℕ) → i < length xs → getD xs i 0 ≡ 0 → ⊥
+unfolding slotsFilled
 none-free [] h i l e = omega arith
 none-free (zero ∷ xs) h i l e = omega (arith, filled-most xs)
 none-free (suc x ∷ xs) h zero l e = omega arith
@@ -76,7 +76,7 @@ settle-some at m s t h = go (ℕ-discrete (getD s at 0) 0)
 pub record Grown (s t : List ℕ) (d : ℕ) : Type 0 where
   pub long : length t ≡ length s
   pub kept : (a m : ℕ) → getD s a 0 ≡ suc m → getD t a 0 ≡ suc m
-  pub more : filled t ≡ filled s + d
+  pub more : slotsFilled t ≡ slotsFilled s + d
 
 -- what is in t was in s, or is key m in slot `at` for one of the new ones
 abbrev pub Since : List ℕ → List ℕ → (ℕ → ℕ → Type 0) → Type 0
@@ -93,7 +93,7 @@ settled at m s t l h = record {
   grown = record {
     long = ap length (sym e) ∙ length-set s at (suc m);
     kept = λ a x z. in-t a ∙ getD-set-other s at a (suc m) 0 (λ y. omega (arith, ap (λ (q : ℕ). getD s q 0) y, w .0)) ∙ z;
-    more = ap filled (sym e) ∙ filled-set s at m l (w .0) ∙ omega arith;
+    more = ap slotsFilled (sym e) ∙ filled-set s at m l (w .0) ∙ omega arith;
   };
   there = here;
   since = λ a x z. old a x z (ℕ-discrete a at);

@@ -34,7 +34,7 @@ use Rattle.construct.specs.Construct.{bucketsOf, direct, size, Placing, slotBy,
 use Rattle.construct.specs.Keys.{arenaKey, attemptHashes}
 use Rattle.construct.specs.Promised.{AllPlaced, Pilots}
 use Rattle.construct.proofs.KeysLaws.{hashes-long}
-use Rattle.construct.proofs.Placed.{few}
+use Rattle.construct.proofs.Placed.{tries-fit}
 use Rattle.point.specs.declared.Validated.the-variants.{Accepted}
 use Rattle.point.specs.Validate.{pilotsRefusal, validateOf}
 use Rattle.point.specs.Get.{getOf}
@@ -43,7 +43,7 @@ use Rattle.point.specs.Table as table
 use Rattle.point.proofs.Theorems.{accepts, get-is-lookup}
 use Rattle.finish.specs.declared.Finished.the-variants.{Body}
 use Rattle.finish.specs.Body.{arenaStart, headerBytes, pilotsBytes, slotBytes, heldSlot, slotsBytes, bodyBytes, placedOf, bodyFrom, bodyOf}
-use Rattle.finish.specs.Finish.{walked, keysOf, unplaced, lengthsRefusal, placingRefusal, finishRefusal, answered, bodyLength, finishOf}
+use Rattle.finish.specs.Finish.{walked, keysOf, untaken, lengthsRefusal, placingRefusal, finishRefusal, answered, bodyLength, finishOf}
 use Rattle.finish.proofs.LengthLaws.{Lengths, lengths}
 use Rattle.finish.proofs.BodyLaws.{body-long}
 use Rattle.finish.proofs.FinishLaws.{refused-by, hash-at}
@@ -73,7 +73,7 @@ module _ (arena : List ℕ) (out wide narrow k : ℕ) where
 
   pub made : finishOf arena out wide narrow ≡ Body k → Made arena
   unfolding placingRefusal
-  made e = go (placedOf arena (keysOf arena)) refl (passes (unplaced (placedOf arena (keysOf arena))) 9 _ (both .1) .0)
+  made e = go (placedOf arena (keysOf arena)) refl (passes (untaken (placedOf arena (keysOf arena))) 9 _ (both .1) .0)
     where
       both : (lengthsRefusal arena out wide narrow ≡ 0) × (placingRefusal arena (keysOf arena) ≡ 0)
       both = orElse-zero _ _ (sym (refused-by arena out wide narrow) ∙ body-answered e .0)
@@ -81,7 +81,7 @@ module _ (arena : List ℕ) (out wide narrow k : ℕ) where
       L : Lengths (length arena) (walked arena .end) (keysOf arena) out wide narrow
       L = lengths (length arena) (walked arena .end) (keysOf arena) out wide narrow (both .0)
 
-      go : (o : Option (ℕ × Placing)) → placedOf arena (keysOf arena) ≡ o → unplaced o ≡ false → Made arena
+      go : (o : Option (ℕ × Placing)) → placedOf arena (keysOf arena) ≡ o → untaken o ≡ false → Made arena
       go none q z = absurd (let t : _≡_ {A = ℕ} 0 1 = cc in omega arith)
       go (some (i, pl)) q z = record { attempt = i; placing = pl; taken = q; whole = L .whole; any = L .some; most = L .few }
 

@@ -20,9 +20,9 @@ use Rattle.construct.specs.Keys.{attemptHashes}
 use Rattle.construct.specs.Promised.{AttemptFails}
 use Rattle.construct.proofs.KeysLaws.{hashes-long}
 use Rattle.construct.proofs.Failing.{fails-attempt, attempt-fails}
-use Rattle.construct.proofs.Exhausting.{all-fail, none-left}
+use Rattle.construct.proofs.Exhausting.{all-fail, none-attempted}
 use Rattle.finish.specs.Body.{placedOf}
-use Rattle.finish.specs.Finish.{walked, keysOf, walkedCauses, walkedRefusal, unplaced, mismatched, placingCauses, lengthsRefusal, placingRefusal, finishCauses, finishRefusal, answered, bodyLength, finishOf, finishedNumber, finishedValues}
+use Rattle.finish.specs.Finish.{walked, keysOf, walkedCauses, walkedRefusal, untaken, mismatched, placingCauses, lengthsRefusal, placingRefusal, finishCauses, finishRefusal, answered, bodyLength, finishOf, finishedNumber, finishedValues}
 use Rattle.finish.proofs.LengthLaws.{lengths}
 use Rattle.finish.proofs.FinishLaws.{refused-by, refused-late}
 use Rattle.finish.proofs.SelfCheck.{check-passes}
@@ -76,20 +76,20 @@ module _ (arena : List ℕ) (out wide narrow : ℕ) where
       go (by-second z q) = (z, q)
 
   -- THEOREM: 10 exactly where nothing is refused before and each of the eight attempts fails
-  pub ten-fails : finishedNumber (finishOf arena out wide narrow) ≡ 10 → (i : ℕ) → i < 8 → attemptOf (attemptHashes arena (keysOf arena) i) ≡ none
+  pub ten-exhausts : finishedNumber (finishOf arena out wide narrow) ≡ 10 → (i : ℕ) → i < 8 → attemptOf (attemptHashes arena (keysOf arena) i) ≡ none
   unfolding placingRefusal placedOf
-  ten-fails e =
+  ten-exhausts e =
       all-fail (attemptHashes arena (keysOf arena))
       (go (placedOf arena (keysOf arena)) (first-only 10 (placingCauses arena (keysOf arena)) (omega arith) (past-lengths 10 (omega arith) e .1)))
     where
-      go : (o : Option (ℕ × Placing)) → First 10 (cause (unplaced o) 10 ∷ cause (mismatched (attemptHashes arena (keysOf arena)) o) 11 ∷ []) → o ≡ none
+      go : (o : Option (ℕ × Placing)) → First 10 (cause (untaken o) 10 ∷ cause (mismatched (attemptHashes arena (keysOf arena)) o) 11 ∷ []) → o ≡ none
       go none f = refl
       go (some x) (here h z) = absurd (false≢true h)
       go (some x) (later h (here h1 z)) = absurd (omega arith)
 
-  pub fails-ten : lengthsRefusal arena out wide narrow ≡ 0 → ((i : ℕ) → i < 8 → attemptOf (attemptHashes arena (keysOf arena) i) ≡ none) → finishedNumber (finishOf arena out wide narrow) ≡ 10
+  pub exhausts-ten : lengthsRefusal arena out wide narrow ≡ 0 → ((i : ℕ) → i < 8 → attemptOf (attemptHashes arena (keysOf arena) i) ≡ none) → finishedNumber (finishOf arena out wide narrow) ≡ 10
   unfolding placingRefusal placedOf
-  fails-ten z f = finish-number ∙ refused-late arena out wide narrow z ∙ rw (none-left (attemptHashes arena (keysOf arena)) f)
+  exhausts-ten z f = finish-number ∙ refused-late arena out wide narrow z ∙ rw (none-attempted (attemptHashes arena (keysOf arena)) f)
 
   -- past the length checks there is a key
   some-key : lengthsRefusal arena out wide narrow ≡ 0 → 0 < keysOf arena
@@ -105,11 +105,11 @@ module _ (arena : List ℕ) (out wide narrow : ℕ) where
       → (lengthsRefusal arena out wide narrow ≡ 0) × ((i : ℕ) → i < 8 → AttemptFails (attemptHashes arena (keysOf arena) i))
   ten-attempts e =
       let z = past-lengths 10 (omega arith) e .0 in
-      (z, λ i l. attempt-fails (attemptHashes arena (keysOf arena) i) (some-hash z i) (ten-fails e i l))
+      (z, λ i l. attempt-fails (attemptHashes arena (keysOf arena) i) (some-hash z i) (ten-exhausts e i l))
 
   pub attempts-ten : lengthsRefusal arena out wide narrow ≡ 0 → ((i : ℕ) → i < 8 → AttemptFails (attemptHashes arena (keysOf arena) i))
       → finishedNumber (finishOf arena out wide narrow) ≡ 10
-  attempts-ten z f = fails-ten z (λ i l. fails-attempt (attemptHashes arena (keysOf arena) i) (some-hash z i) (f i l))
+  attempts-ten z f = exhausts-ten z (λ i l. fails-attempt (attemptHashes arena (keysOf arena) i) (some-hash z i) (f i l))
 
   -- THEOREM: 11 is never answered
   pub never-eleven : finishedNumber (finishOf arena out wide narrow) ≡ 11 → ⊥
@@ -119,7 +119,7 @@ module _ (arena : List ℕ) (out wide narrow : ℕ) where
       go (some-key (p .0)) (placedOf arena (keysOf arena)) refl (first-only 11 (placingCauses arena (keysOf arena)) (omega arith) (p .1))
     where
       go : 0 < keysOf arena → (o : Option (ℕ × Placing)) → placedOf arena (keysOf arena) ≡ o
-          → First 11 (cause (unplaced o) 10 ∷ cause (mismatched (attemptHashes arena (keysOf arena)) o) 11 ∷ []) → ⊥
+          → First 11 (cause (untaken o) 10 ∷ cause (mismatched (attemptHashes arena (keysOf arena)) o) 11 ∷ []) → ⊥
       go any o q (here h z) = omega arith
       go any none q (later h (here h1 z)) = false≢true h1
       go any (some (i, pl)) q (later h (here h1 z)) = false≢true (sym (check-passes arena (keysOf arena) i pl any q) ∙ h1)

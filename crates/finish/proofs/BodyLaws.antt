@@ -78,7 +78,7 @@ slots-listed arena wide wide′ pilots slots n seed L W = flat-same (listedSlot 
     same : (s : ℕ) → s < length slots → listedSlot wide′ n (getD slots s 0) ≡ heldSlot arena seed (getD slots s 0)
     same s l =
         let m = getD slots s 0 - 1 in
-        let low : m < n = omega (arith, W .slots-filled .filled s l, W .slots-filled .keys s l) in
+        let low : m < n = omega (arith, W .slotsFilled .filled s l, W .slotsFilled .keys s l) in
         ap₂ slotBytes (L .places m low) (ap fingerprintOf (L .hashes m low ∙ W .hashes m low))
 
 -- the room before the arena, by the number of pilots
@@ -116,4 +116,4 @@ pub slots-asked : (arena out wide pilots slots wide′ out′ : List ℕ) (n see
 slots-asked arena out wide pilots slots wide′ out′ n seed R W eh eo =
     let l = W .slots-long in
     let room = room-start arena out wide pilots slots n seed R W in
-    (subst (λ (x : ℕ). Filled x slots) (sym l) (W .slots-filled), omega (arith, R .long), omega arith)
+    (subst (λ (x : ℕ). Filled x slots) (sym l) (W .slotsFilled), omega (arith, R .long), omega arith)

@@ -132,7 +132,7 @@ module _ (arena wide pilots slots : List ℕ) (n i : ℕ) (C : AttemptTaken aren
     pilots-long = C .pilots-long;
     slots-long = C .slots-long;
     hashes = λ m lm. sym (getD-take n wide m 0 lm) ∙ ap (λ (z : List ℕ). getD z m 0) (C .hashes) ∙ hash-at (seedOf i) arena n m lm ∙ ap (λ (x : ℕ). hashOf x (arenaKey arena m)) (sym es);
-    slots-filled = subst (λ (x : ℕ). Filled x slots) (C .slots-long) (all-filled (take n wide) pilots slots e);
+    slotsFilled = subst (λ (x : ℕ). Filled x slots) (C .slots-long) (all-filled (take n wide) pilots slots e);
   }
 
 -- ---- what was built

@@ -54,9 +54,9 @@ unfoldable pub mismatch : (hs pilots slots : List ℕ) → Bool
 mismatch hs pilots slots = anyBelow (unmatchedAt hs pilots slots) (length slots)
 
 -- no attempt is taken
-abbrev pub unplaced : Option (ℕ × Placing) → Bool
-unplaced none = true
-unplaced (some x) = false
+abbrev pub untaken : Option (ℕ × Placing) → Bool
+untaken none = true
+untaken (some x) = false
 
 -- the self-check of the attempt that is taken
 abbrev pub mismatched : (ℕ → List ℕ) → Option (ℕ × Placing) → Bool
@@ -66,7 +66,7 @@ mismatched hashes (some (i, pl)) = mismatch (hashes i) (pl .pilots) (pl .slots)
 -- 10 all eight attempts failed, 11 self-check
 abbrev pub placingCauses : List ℕ → ℕ → List Cause
 placingCauses arena n =
-    cause (unplaced (placedOf arena n)) 10 ∷ cause (mismatched (attemptHashes arena n) (placedOf arena n)) 11 ∷ []
+    cause (untaken (placedOf arena n)) 10 ∷ cause (mismatched (attemptHashes arena n) (placedOf arena n)) 11 ∷ []
 
 unfoldable pub placingRefusal : List ℕ → ℕ → ℕ
 placingRefusal arena n = firstOf (placingCauses arena n)

@@ -19,7 +19,7 @@ use Rattle.lines.specs.Shown.{Rule}
 use Rattle.lines.specs.Listing.{newline, listingHeader, tableText, refusedText, limitIn, dataLengthIn, bodyIn, sizeRefusal, listingRefusal, textBy, textOf}
 use Rattle.lines.specs.Causes.{ListingStops, Listable}
 use Rattle.lines.specs.Causes.ListingStops.{too-short, too-long, body-stops}
-use Rattle.lines.proofs.InputLaws.{size-short, size-long, taken, listable-long, text-refused}
+use Rattle.lines.proofs.InputLaws.{size-short, size-long, unrefused, listable-long, text-refused}
 
 -- THEOREM: the listing's numbers are 16 and 20 to 30
 pub stops-numbers : {input : List ℕ} {n : ℕ} → ListingStops input n → (n ≡ 16) ⊎ ((20 ≤ n) × (n ≤ 30))
@@ -94,7 +94,7 @@ module _ (rule : Rule) where
   text-listed-only input e = go (listingRefusal input) refl e
     where
       go : (r : ℕ) → listingRefusal input ≡ r → textBy rule input r ≡ tableText rule (limitIn input) (tableOf (bodyIn input)) → Listable input
-      go zero q f = taken input q
+      go zero q f = unrefused input q
       go (suc r) q f = absurd (table-unrefused rule (limitIn input) (tableOf (bodyIn input)) (suc r) (sym f))
 
 -- THEOREM: an input that no cause refuses is such an input
@@ -102,5 +102,5 @@ pub unstopped-taken : (input : List ℕ) → ((n : ℕ) → ListingStops input n
 unstopped-taken input none = go (listingRefusal input) refl
   where
     go : (r : ℕ) → listingRefusal input ≡ r → Listable input
-    go zero q = taken input q
+    go zero q = unrefused input q
     go (suc r) q = absurd (none (suc r) (refusal-stops input (suc r) (omega arith) q))

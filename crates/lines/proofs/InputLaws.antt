@@ -22,7 +22,7 @@ use Rattle.point.specs.declared.Validated.{Validated}
 use Rattle.point.specs.declared.Validated.the-variants.{Accepted}
 use Rattle.point.specs.Validate.{validationRefusal, verdict, validateOf, refusalNumber}
 use Rattle.point.specs.Table.{tableOf}
-use Rattle.point.proofs.ValidateLaws.{passed}
+use Rattle.point.proofs.ValidateLaws.{validation-passed}
 use Rattle.point.specs.Inner.Stands.{TableStands}
 use Rattle.point.proofs.SlotLaws.{accepted-stands, holds-table}
 use Rattle.lines.specs.declared.Listed.{Listed}
@@ -55,9 +55,9 @@ verdict-zero : (n : ℕ) → refusalNumber (verdict n) ≡ 0 → verdict n ≡ A
 verdict-zero zero e = refl
 verdict-zero (suc n) e = absurd (suc-ne-zero _ e)
 
-pub taken : (input : List ℕ) → listingRefusal input ≡ 0 → Listable input
+pub unrefused : (input : List ℕ) → listingRefusal input ≡ 0 → Listable input
 unfolding listingRefusal sizeRefusal validateOf
-taken input e =
+unrefused input e =
     let s = orElse-zero (sizeRefusal input) (refusalNumber (validateOf (bodyIn input) (dataLengthIn input))) e in
     go (ltb (length input) 16) (ltb 65536 (length input)) refl refl (s .0) (verdict-zero (validationRefusal (bodyIn input) (dataLengthIn input)) (s .1))
   where
@@ -85,7 +85,7 @@ text-listed rule input e limit el = ap (textBy rule input) e ∙ sym (rw (part-t
 
 -- an accepted body has a header
 pub listable-long : {input : List ℕ} → Listable input → 16 ≤ length input
-listable-long {input} t = omega (arith, headed (bodyIn input) (passed (bodyIn input) (dataLengthIn input) (t .accepted) .checked .header) .long, length-drop 16 input)
+listable-long {input} t = omega (arith, headed (bodyIn input) (validation-passed (bodyIn input) (dataLengthIn input) (t .accepted) .checked .header) .long, length-drop 16 input)
 
 pub listable-stands : {input : List ℕ} → Listable input → TableStands (take (length input - 16) (drop 16 input))
 listable-stands {input} t = rw (part-to-end input 16) (accepted-stands (bodyIn input) (dataLengthIn input) (t .accepted))
@@ -97,7 +97,7 @@ listed-length : (rule : Rule) (input : List ℕ) (limit : ℕ) → Listable inpu
 listed-length rule input limit t all el =
     let body = bodyIn input in
     let bytes : AllBytes body = bytes-drop 16 input all in
-    let h = headed body (passed body (dataLengthIn input) (t .accepted) .checked .header) in
+    let h = headed body (validation-passed body (dataLengthIn input) (t .accepted) .checked .header) in
     let u = holds-table body (dataLengthIn input) (t .accepted) bytes in
     let l : limit < 2 ^ 64 = rw el (le-lt 8 input 0 all) in
     let n : length (tableOf body) < 2 ^ 64 = omega (arith, u .count, le-lt 4 body 16 bytes) in
@@ -120,7 +120,7 @@ module _ {rule : Rule} {input before after : List ℕ} {a : Listed} where
       → Listing rule input before a after
   table-listing limit all e el l =
       let t = text-listed rule input e limit el in
-      let k = taken input e in
+      let k = unrefused input e in
       record {
         answer = rw t (l .answer);
         buffer = rw t (l .buffer);

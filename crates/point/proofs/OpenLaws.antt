@@ -27,7 +27,7 @@ use Rattle.point.specs.Validate.{validateOf}
 use Rattle.point.specs.Get.{locateOf, openOf}
 use Rattle.point.specs.Table.{tableOf, keyPlace, bodyKey, keySlot}
 use Rattle.point.proofs.GetLaws.{locate-on, locate-other, locate-at, open-is, record-whole}
-use Rattle.point.proofs.ValidateLaws.{passed}
+use Rattle.point.proofs.ValidateLaws.{validation-passed}
 use Rattle.point.proofs.SlotLaws.{key-entered, key-belongs, hash-near, hash-slot, slots-apart, slot-hit}
 
 -- the versions of the i-th key
@@ -46,7 +46,7 @@ module _ (body : List ℕ) (size : ℕ) (ok : validateOf body size ≡ Accepted)
     -- the low 16 bits of a right fingerprint are the fingerprint
     fingerprint-is : fingerprintLow body (slotPlace body (keySlot body key)) ≡ fingerprintOf (hashOf (seedIn body) (bodyKey body i))
     fingerprint-is =
-        let d = headed body (passed body size ok .checked .header) in
+        let d = headed body (validation-passed body size ok .checked .header) in
         let s = slot-inside body (hashOf (seedIn body) key) d (hash-near body size ok (hashOf (seedIn body) key)) in
         let e : fingerprintWide body (slotPlace body (keySlot body key)) ≡ fingerprintOf (hashOf (seedIn body) (bodyKey body i)) =
         ap (λ (t : ℕ). fingerprintWide body (slotPlace body t)) (sym q) ∙ key-belongs body size ok i l .fingerprint in
@@ -59,13 +59,13 @@ module _ (body : List ℕ) (size : ℕ) (ok : validateOf body size ≡ Accepted)
     located-at f =
         let p = place-is in
         let k = key-entered body size ok i l .rules .key in
-        locate-on body key _ refl (passed body size ok .checked .header)
+        locate-on body key _ refl (validation-passed body size ok .checked .header)
         ∙ locate-at body (hashOf (seedIn body) key) _ _ refl refl (leb-false _ _ (hash-near body size ok (hashOf (seedIn body) key))) _ _ _ refl refl refl _ _ f refl refl (omega arith)
         ∙ ap located.At p
 
     located-nothing : (fingerprintLow body (slotPlace body (keySlot body key)) ≡ fingerprintOf (hashOf (seedIn body) key) → ⊥) → locateOf body key ≡ located.Nothing
     located-nothing n =
-        locate-on body key _ refl (passed body size ok .checked .header)
+        locate-on body key _ refl (validation-passed body size ok .checked .header)
         ∙ locate-other body (hashOf (seedIn body) key) _ _ refl refl (leb-false _ _ (hash-near body size ok (hashOf (seedIn body) key))) _ _ _ refl refl refl n
 
     -- the owner has the key

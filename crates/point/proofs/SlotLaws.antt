@@ -29,7 +29,7 @@ use Rattle.point.specs.declared.Validated.the-variants.{Accepted}
 use Rattle.point.specs.Validate.{slotRefusal, validateOf}
 use Rattle.point.specs.Table.{tableOf, keyPlace, bodyKey, keySlot, HoldsTable, Belongs, OneBelow}
 use Rattle.point.specs.Inner.Stands.{TableStands}
-use Rattle.point.proofs.ValidateLaws.{passed, checked-near, slotted}
+use Rattle.point.proofs.ValidateLaws.{validation-passed, checked-near, slotted}
 
 -- ---- the table
 
@@ -41,7 +41,7 @@ entry-in size e k = each-map (record-in size) (e .versions) (k .versions)
 
 module _ (body : List ℕ) (size : ℕ) (ok : validateOf body size ≡ Accepted) where
   walked : (walkFrom (slotRefusal body) body (Of size) (arenaIn body) (arenaIn body) (keysIn body) .keys ≡ keysIn body) × (walkFrom (slotRefusal body) body (Of size) (arenaIn body) (arenaIn body) (keysIn body) .end ≡ length body)
-  walked = walk-whole (slotRefusal body) body (Of size) (arenaIn body) (arenaIn body) (keysIn body) (passed body size ok .arena)
+  walked = walk-whole (slotRefusal body) body (Of size) (arenaIn body) (arenaIn body) (keysIn body) (validation-passed body size ok .arena)
 
   -- every key of the body passed
   pub keys-passed : Passed (slotRefusal body) body (Of size) (arenaIn body) (arenaIn body) (keysIn body)
@@ -57,13 +57,13 @@ module _ (body : List ℕ) (size : ℕ) (ok : validateOf body size ≡ Accepted)
 
   -- THEOREM: the entries of an accepted body stand
   pub accepted-stands : TableStands body
-  accepted-stands = let h = headed body (passed body size ok .checked .header) in record { long = h .long; arena = omega arith; all = passed-stand keys-passed }
+  accepted-stands = let h = headed body (validation-passed body size ok .checked .header) in record { long = h .long; arena = omega arith; all = passed-stand keys-passed }
 
   -- THEOREM: an accepted body holds its table
   pub holds-table : AllBytes body → HoldsTable body size (tableOf body)
   unfolding tableOf
   holds-table all =
-      let d = headed body (passed body size ok .checked .header) in
+      let d = headed body (validation-passed body size ok .checked .header) in
       let b = passed-bytes body (Of size) all (slotRefusal body) (arenaIn body) (arenaIn body) (keysIn body) (omega arith) keys-passed in
       let l : length (drop (arenaIn body) body) ≡ entryPlace body (arenaIn body) (keysIn body) - arenaIn body = simp (length-drop, keys-end) in
       let whole : drop (arenaIn body) body ≡ tableBytes (entriesFrom body (arenaIn body) (keysIn body)) =
@@ -95,10 +95,10 @@ module _ (body : List ℕ) (size : ℕ) (ok : validateOf body size ≡ Accepted)
 
   -- no hash's pilot is past the end, so every key has a slot
   pub hash-near : (h : ℕ) → directPast (keysIn body) (pilotOf body h) ≡ false
-  hash-near h = checked-near body h (passed body size ok .checked)
+  hash-near h = checked-near body h (validation-passed body size ok .checked)
 
   pub hash-slot : (h : ℕ) → slotOf body h < keysIn body
-  hash-slot h = slot-low body h (headed body (passed body size ok .checked .header)) (hash-near h)
+  hash-slot h = slot-low body h (headed body (validation-passed body size ok .checked .header)) (hash-near h)
 
   pub key-belongs : (i : ℕ) → i < keysIn body → Belongs body (keySlot body (bodyKey body i)) i
   key-belongs i l =

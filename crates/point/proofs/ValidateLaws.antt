@@ -138,9 +138,9 @@ pub record ValidationPassed (body : List ℕ) (size : ℕ) : Type 0 where
   pub checked : Checked body
   pub arena : arenaRefusal body size ≡ 0
 
-pub passed : (body : List ℕ) (size : ℕ) → validateOf body size ≡ Accepted → ValidationPassed body size
+pub validation-passed : (body : List ℕ) (size : ℕ) → validateOf body size ≡ Accepted → ValidationPassed body size
 unfolding validateOf validationRefusal
-passed body size e =
+validation-passed body size e =
     let s = orElse-zero (headerRefusal body) _ (verdict-accepted _ e) in
     let t = orElse-zero (pilotsRefusal body (keysIn body) 0 (bucketsIn body)) _ (s .1) in
     record { checked = record { header = s .0; pilots = t .0 }; arena = t .1 }

@@ -1,5 +1,5 @@
 -- The number and values of each answer, from the laws of its crate. Assumes nothing.
-use Rattle.builder.proofs.Answers.{taken-values as add-values, refused-values as add-refused-values}
+use Rattle.builder.proofs.Answers.{add-values, add-refused-values}
 use Rattle.construct.proofs.Exhausting as construct
 use Rattle.finish.proofs.Answers.{finish-values}
 use Rattle.point.proofs.AnswerLaws as point

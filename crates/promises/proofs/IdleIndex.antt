@@ -33,7 +33,7 @@ use Rattle.finish.specs.declared.Finished.the-variants.{Body, Refused}
 use Rattle.finish.specs.Body.{arenaStart}
 use Rattle.finish.specs.Finish.{walked, keysOf, lengthsRefusal, answered, bodyLength, finishOf, FinishPost, finishedNumber}
 use Rattle.finish.proofs.LengthLaws.{length-fits}
-use Rattle.finish.proofs.Answers.{finish-number, ten-fails, body-or-ten}
+use Rattle.finish.proofs.Answers.{finish-number, ten-exhausts, body-or-ten}
 use Rattle.finish.proofs.Accepted.{finish-get}
 use Rattle.promises.specs.Example.{exampleBody, ExampleRoom}
 use Rattle.promises.specs.IdleIndex.{putOf, oneTable, oneArena, OneRoom, ThreeKeys, IdleIndex}
@@ -67,7 +67,7 @@ one-hashes i = ap (λ (n : ℕ). attemptHashes oneArena n i) one-keys
 
 one-number : (out wide narrow : ℕ) → finishedNumber (finishOf oneArena out wide narrow) ≡ 10 → ⊥
 one-number out wide narrow e =
-    Option·some-ne-none _ (sym (one-key (hashOf (seedOf 0) (arenaKey oneArena 0))) ∙ ap attemptOf (sym (one-hashes 0)) ∙ ten-fails oneArena out wide narrow e 0 (omega arith))
+    Option·some-ne-none _ (sym (one-key (hashOf (seedOf 0) (arenaKey oneArena 0))) ∙ ap attemptOf (sym (one-hashes 0)) ∙ ten-exhausts oneArena out wide narrow e 0 (omega arith))
 
 never-ten : {o w u o' w' u' : List ℕ} → FinishPost oneArena o w u (Refused 10) o' w' u' → ⊥
 never-ten {o} {w} {u} P = one-number (length o) (length w) (length u) (ap finishedNumber (sym (P .answer)))

@@ -55,7 +55,7 @@ pub record SlotsKnown (arena wide pilots slots : List ℕ) (n seed : ℕ) : Type
   pub pilots-long : length pilots ≡ bucketsOf n
   pub slots-long : length slots ≡ n
   pub hashes : (m : ℕ) → m < n → getD wide m 0 ≡ hashOf seed (arenaKey arena m)
-  pub slots-filled : Filled n slots
+  pub slotsFilled : Filled n slots
 
 -- the placing of the keys and what was written of it
 pub record BodyPost (arena out : List ℕ) (n : ℕ) (r : Finished) (out′ : List ℕ) : Type 0 where

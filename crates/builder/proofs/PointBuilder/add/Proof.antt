@@ -2,12 +2,12 @@
 use mathlib.Core.Path.{sym, _∙_}
 use native.Mathlib.Omega.{arith}
 use borrow.Author.Needs.{needs}
-use Rattle.builder.proofs.AddLaws.{sized-passed, new-ready, continued-ready, add-refused, add-appended}
+use Rattle.builder.proofs.AddLaws.{sized-passed, new-ready, continued-ready, add-stopped, add-appended}
 use Rattle.builder.proofs.PointBuilder.add.Statement.{statement}
 use Rattle.builder.proofs.PointBuilder.add.Tie as tie
 
 returns : tie.Need-returns
-returns c = add-refused (c .before .add-refusal .ensures) (c .if1 .taken)
+returns c = add-stopped (c .before .add-refusal .ensures) (c .if1 .taken)
 
 cast-t13 : tie.Need-cast-t13
 cast-t13 c = omega (arith, sized-passed _ _ _ (sym (c .before .add-refusal .ensures) ∙ c .if1 .left) .0 .small)
