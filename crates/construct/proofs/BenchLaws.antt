@@ -4,7 +4,7 @@ use mathlib.Core.Path.{_≡_, refl, sym, ap, ap₂, _∙_, subst}
 use mathlib.Core.Bool.{Bool, true, false, false≢true}
 use mathlib.Core.List.{List}
 use mathlib.Core.Option.{Option, none, some, Option·map}
-use native.Mathlib.Nat.{zero-add}
+use native.Mathlib.Nat.{zero-add, add-sub-cancel-left}
 use native.Mathlib.Numerals.{add-one, lt-of-le-of-ne}
 use native.Mathlib.Omega.{arith}
 use lib.ListN.{length, getD, set, take, drop, length-drop}
@@ -14,13 +14,13 @@ use Rattle.laws.proofs.StepsLaws.{steps-none, steps-more, steps-failed}
 use Rattle.construct.specs.Construct.{bucketsOf, direct, tries, group, size, seat, Placing, pilotNoted, placeGroup, placeOf, placeSize, placeDown, twins, twinsAt}
 use Rattle.construct.specs.Inner.Seating.{Keys, SeatsReady, PilotSearched}
 use Rattle.construct.specs.Inner.Layout.{bucketStart, Bench, Stepped}
-use Rattle.construct.specs.Answer.{placing}
+use Rattle.construct.specs.Answer.{pilotsFrom, slotsFrom, pilotsIn, slotsIn, placing}
 use Rattle.construct.proofs.Placed.{member-of, of-skips, of-several}
 use Rattle.construct.proofs.PlacesLaws.{start-next, start-all, start-rises}
-use Rattle.construct.proofs.PartsLaws.{part, back, set-inside, set-before, back-inside, back-before}
+use Rattle.construct.proofs.PartsLaws.{part, back, lent-part, set-inside, set-before, back-inside, back-before}
 
 -- other words, with the places of the buckets as they were
-pub bench-kept : (wide narrow narrow′ : List ℕ) (n b : ℕ) → Bench wide narrow n b → length narrow′ ≡ length narrow → take (b + 1) narrow′ ≡ take (b + 1) narrow → Bench wide narrow′ n b
+pub bench-kept : (wide narrow narrow′ : List ℕ) (n b : ℕ) → Bench wide narrow n b → length narrow′ ≡ length narrow → take (pilotsFrom b) narrow′ ≡ take (pilotsFrom b) narrow → Bench wide narrow′ n b
 bench-kept wide narrow narrow′ n b B len same = record {
   any = B .any;
   most = B .most;
@@ -38,7 +38,7 @@ bench-kept wide narrow narrow′ n b B len same = record {
     nb = ap bucketsOf (length-take-le n wide (omega (arith, B .long))) ∙ sym (B .count)
 
     at : (k : ℕ) → k ≤ b → getD narrow′ k 0 ≡ getD narrow k 0
-    at k l = sym (getD-take (b + 1) narrow′ k 0 (omega arith)) ∙ ap (λ (x : List ℕ). getD x k 0) same ∙ getD-take (b + 1) narrow k 0 (omega arith)
+    at k l = sym (getD-take (pilotsFrom b) narrow′ k 0 (omega arith)) ∙ ap (λ (x : List ℕ). getD x k 0) same ∙ getD-take (pilotsFrom b) narrow k 0 (omega arith)
 
 pub same-placing : (p p′ s s′ : List ℕ) → p ≡ p′ → s ≡ s′ → _≡_ {A = Placing} (record { pilots = p; slots = s }) (record { pilots = p′; slots = s′ })
 same-placing p p′ s s′ e f i = record { pilots = e i; slots = f i }
@@ -86,44 +86,52 @@ module _ (wide narrow : List ℕ) (n b : ℕ) (B : Bench wide narrow n b) where
     }
 
     -- the slots, as they are lent
-    pub bench-slots : length (part (b + 1 + b) n narrow) ≡ n
-    bench-slots = length-take-le n (drop (b + 1 + b) narrow) (omega (arith, length-drop (b + 1 + b) narrow, B .room))
+    pub bench-slots : length (slotsIn n b narrow) ≡ n
+    bench-slots = length-take-le n (drop (slotsFrom b) narrow) (omega (arith, length-drop (slotsFrom b) narrow, B .room))
 
     -- a search for bucket k's pilot that found none, and one that did
-    module _ (ms t : List ℕ) (r : ℕ) (e : ms ≡ group (take n wide) k) (f : PilotSearched (take n wide) ms (part (b + 1 + b) n narrow) t r) where
+    module _ (ms t : List ℕ) (r : ℕ) (e : ms ≡ group (take n wide) k) (f : PilotSearched (take n wide) ms (slotsIn n b narrow) t r) where
       pub group-none : r ≡ tries → placeGroup (take n wide) k (placing n b narrow) ≡ none
       unfolding placeGroup placing size
-      group-none z = ap (Option·map (pilotNoted k 0 (placing n b narrow))) (subst (λ (x : List ℕ). least (λ p. seat (take n wide) x p (length x) (part (b + 1 + b) n narrow)) tries 0 ≡ none) e (f .miss z .0))
+      group-none z = ap (Option·map (pilotNoted k 0 (placing n b narrow))) (subst (λ (x : List ℕ). least (λ p. seat (take n wide) x p (length x) (slotsIn n b narrow)) tries 0 ≡ none) e (f .miss z .0))
 
-      pub group-some : (r ≡ tries → ⊥) → length t ≡ n → Stepped (placeGroup (take n wide) k (placing n b narrow)) n b narrow (set (back (b + 1 + b) n t narrow) (b + 1 + k) r) true
+      pub group-some : (r ≡ tries → ⊥) → length t ≡ n → Stepped (placeGroup (take n wide) k (placing n b narrow)) n b narrow (set (back (slotsFrom b) n t narrow) (pilotsFrom b + k) r) true
       unfolding placeGroup placing size pilotNoted
       group-some z len = (
-        ap (Option·map (pilotNoted k 0 (placing n b narrow))) (subst (λ (x : List ℕ). least (λ p. seat (take n wide) x p (length x) (part (b + 1 + b) n narrow)) tries 0 ≡ some (r, t)) e (f .hit (lt-of-le-of-ne (f .most) z)))
+        ap (Option·map (pilotNoted k 0 (placing n b narrow))) (subst (λ (x : List ℕ). least (λ p. seat (take n wide) x p (length x) (slotsIn n b narrow)) tries 0 ≡ some (r, t)) e (f .hit (lt-of-le-of-ne (f .most) z)))
             ∙ ap some (same-placing _ _ _ _ (sym pilots) (sym slots)),
-        take-set-le (b + 1) (back (b + 1 + b) n t narrow) (b + 1 + k) r (omega arith) ∙ back-before narrow (b + 1 + b) n t fits 0 (b + 1) (omega arith),
+        take-set-le (pilotsFrom b) (back (slotsFrom b) n t narrow) (pilotsFrom b + k) r (omega arith) ∙ back-before narrow (slotsFrom b) n t fits 0 (pilotsFrom b) (omega arith),
       )
         where
-          fits : b + 1 + b ≤ length narrow
+          fits : slotsFrom b ≤ length narrow
           fits = omega (arith, B .room)
 
-          pilots : part (b + 1) b (set (back (b + 1 + b) n t narrow) (b + 1 + k) r) ≡ set (part (b + 1) b narrow) k (0 + r)
-          pilots = set-inside (back (b + 1 + b) n t narrow) (b + 1) b k r l ∙ ap₂ (λ (x : List ℕ) (y : ℕ). set x k y) (back-before narrow (b + 1 + b) n t fits (b + 1) b (omega arith)) (sym (zero-add r))
+          pilots : pilotsIn b (set (back (slotsFrom b) n t narrow) (pilotsFrom b + k) r) ≡ set (pilotsIn b narrow) k (0 + r)
+          pilots = set-inside (back (slotsFrom b) n t narrow) (pilotsFrom b) b k r l ∙ ap₂ (λ (x : List ℕ) (y : ℕ). set x k y) (back-before narrow (slotsFrom b) n t fits (pilotsFrom b) b (omega arith)) (sym (zero-add r))
 
-          slots : part (b + 1 + b) n (set (back (b + 1 + b) n t narrow) (b + 1 + k) r) ≡ t
-          slots = set-before (back (b + 1 + b) n t narrow) (b + 1 + b) n (b + 1 + k) r (omega arith) ∙ back-inside narrow (b + 1 + b) n t fits len
+          slots : slotsIn n b (set (back (slotsFrom b) n t narrow) (pilotsFrom b + k) r) ≡ t
+          slots = set-before (back (slotsFrom b) n t narrow) (slotsFrom b) n (pilotsFrom b + k) r (omega arith) ∙ back-inside narrow (slotsFrom b) n t fits len
 
-    -- the same, where the length of the lent part is m, which is n
-    module _ (m : ℕ) (em : m ≡ n) (ms t : List ℕ) (r : ℕ) (e : ms ≡ group (take n wide) k) where
-      pub lent-ready : SeatsReady (take n wide) ms (part (b + 1 + b) m narrow)
-      lent-ready = bench-ready ms (part (b + 1 + b) m narrow) e (ap (λ (x : ℕ). length (part (b + 1 + b) x narrow)) em ∙ bench-slots)
+    -- the same, where the slots are lent from `base` on, which is their place, and the pilot noted behind `front`, which is the pilots'
+    module _ (base : ℕ) (eb : base ≡ slotsFrom b) (ms t : List ℕ) (r : ℕ) (e : ms ≡ group (take n wide) k) where
+      lent : part base (base + n - base) narrow ≡ slotsIn n b narrow
+      lent = lent-part narrow base (slotsFrom b) n eb
 
-      pub lent-none : PilotSearched (take n wide) ms (part (b + 1 + b) m narrow) t r → r ≡ tries → placeGroup (take n wide) k (placing n b narrow) ≡ none
-      lent-none f = group-none ms t r e (subst (λ (x : ℕ). PilotSearched (take n wide) ms (part (b + 1 + b) x narrow) t r) em f)
+      pub lent-ready : SeatsReady (take n wide) ms (part base (base + n - base) narrow)
+      lent-ready = bench-ready ms (part base (base + n - base) narrow) e (ap length lent ∙ bench-slots)
 
-      pub lent-some : PilotSearched (take n wide) ms (part (b + 1 + b) m narrow) t r → (r ≡ tries → ⊥) → length t ≡ length (part (b + 1 + b) m narrow) → Stepped (placeGroup (take n wide) k (placing n b narrow)) n b narrow (set (back (b + 1 + b) m t narrow) (b + 1 + k) r) true
-      lent-some f z len =
-          subst (λ (x : ℕ). Stepped (placeGroup (take n wide) k (placing n b narrow)) n b narrow (set (back (b + 1 + b) x t narrow) (b + 1 + k) r) true) (sym em)
-          (group-some ms t r e (subst (λ (x : ℕ). PilotSearched (take n wide) ms (part (b + 1 + b) x narrow) t r) em f) z (len ∙ ap (λ (x : ℕ). length (part (b + 1 + b) x narrow)) em ∙ bench-slots))
+      module _ (f : PilotSearched (take n wide) ms (part base (base + n - base) narrow) t r) where
+        found : PilotSearched (take n wide) ms (slotsIn n b narrow) t r
+        found = subst (λ (x : List ℕ). PilotSearched (take n wide) ms x t r) lent f
+
+        pub lent-none : r ≡ tries → placeGroup (take n wide) k (placing n b narrow) ≡ none
+        lent-none = group-none ms t r e found
+
+        pub lent-some : (r ≡ tries → ⊥) → length t ≡ length (part base (base + n - base) narrow) → (front : ℕ) → front ≡ pilotsFrom b → Stepped (placeGroup (take n wide) k (placing n b narrow)) n b narrow (set (back base (base + n - base) t narrow) (front + k) r) true
+        lent-some z len front ef =
+            subst (λ (x : List ℕ). Stepped (placeGroup (take n wide) k (placing n b narrow)) n b narrow x true)
+            (sym (ap₂ (λ (x : List ℕ) (y : ℕ). set x (y + k) r) (ap₂ (λ (x y : ℕ). back x y t narrow) eb (add-sub-cancel-left base n)) ef))
+            (group-some ms t r e found z (len ∙ ap length lent ∙ bench-slots))
 
 -- what a read of bucket k's two ends needs: they lie in order, and all of it inside the workspace
 pub record Inside (wide narrow : List ℕ) (n b k : ℕ) : Type 0 where
@@ -131,7 +139,7 @@ pub record Inside (wide narrow : List ℕ) (n b k : ℕ) : Type 0 where
   pub last : getD narrow (k + 1) 0 ≤ n
   pub few : n < direct
   pub long : length wide ≡ n + n
-  pub room : b + 1 + b + n ≤ length narrow
+  pub room : slotsFrom b + n ≤ length narrow
 
 pub bench-inside : (wide narrow : List ℕ) (n b : ℕ) (B : Bench wide narrow n b) (k : ℕ) → k < b → Inside wide narrow n b k
 bench-inside wide narrow n b B k l = record {
@@ -159,7 +167,7 @@ module _ (wide narrow : List ℕ) (n b : ℕ) (B : Bench wide narrow n b) (k : �
 -- steps of the placing, one after another: the words narrow₀ at first, narrow so far
 pub record SoFar (f : ℕ → Placing → Option Placing) (i n b : ℕ) (narrow₀ narrow : List ℕ) : Type 0 where
   pub long : length narrow ≡ length narrow₀
-  pub ends : take (b + 1) narrow ≡ take (b + 1) narrow₀
+  pub ends : take (pilotsFrom b) narrow ≡ take (pilotsFrom b) narrow₀
   pub went : steps f i (placing n b narrow₀) ≡ some (placing n b narrow)
 
 module _ (f : ℕ → Placing → Option Placing) (n b : ℕ) (narrow₀ : List ℕ) where
@@ -219,7 +227,7 @@ module _ (hs : List ℕ) (top n b : ℕ) (narrow₀ : List ℕ) where
 -- the keys of bucket k, as they are lent, and whether two have equal hashes
 module _ (wide narrow : List ℕ) (n b : ℕ) (B : Bench wide narrow n b) (k : ℕ) (l : k < b) where
   pub bench-lent : Keys (take n wide) (part (n + getD narrow k 0) (n + getD narrow (k + 1) 0 - (n + getD narrow k 0)) wide)
-  bench-lent = bench-ready wide narrow n b B k l (part (n + getD narrow k 0) (n + getD narrow (k + 1) 0 - (n + getD narrow k 0)) wide) (part (b + 1 + b) n narrow) (bench-group wide narrow n b B k l) (bench-slots wide narrow n b B k l) .of
+  bench-lent = bench-ready wide narrow n b B k l (part (n + getD narrow k 0) (n + getD narrow (k + 1) 0 - (n + getD narrow k 0)) wide) (slotsIn n b narrow) (bench-group wide narrow n b B k l) (bench-slots wide narrow n b B k l) .of
 
   pub bench-twins : (r : Bool) → r ≡ twins (take n wide) (part (n + getD narrow k 0) (n + getD narrow (k + 1) 0 - (n + getD narrow k 0)) wide) → twinsAt (take n wide) k ≡ r
   unfolding twinsAt

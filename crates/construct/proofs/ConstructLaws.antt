@@ -15,7 +15,7 @@ use Rattle.construct.specs.Construct.{bucketsOf, attempts, Placing, atte
 use Rattle.construct.specs.Keys.{hashesOf, attemptHashes}
 use Rattle.construct.specs.Inner.Layout.{Entries}
 use Rattle.construct.specs.Inner.Layout.{Fresh, Lent, Attempted}
-use Rattle.construct.specs.Answer.{placing, constructedOf, ConstructPost}
+use Rattle.construct.specs.Answer.{slotsFrom, placing, constructedOf, ConstructPost}
 use Rattle.construct.specs.declared.Constructed.the-variants.{Placed, Exhausted}
 use Rattle.construct.proofs.LayingLaws.{zero-front}
 
@@ -30,24 +30,25 @@ module _ (arena wide narrow : List ℕ) (n : ℕ) (L : Lent arena wide narrow n)
   pub lent-kept : (wide′ narrow′ : List ℕ) → length wide′ ≡ length wide → length narrow′ ≡ length narrow → Lent arena wide′ narrow′ n
   lent-kept wide′ narrow′ eh ew = record { any = L .any; most = L .most; entries = L .entries; long = eh ∙ L .long; room = omega (arith, L .room) }
 
-  module _ (b : ℕ) (eb : b ≡ bucketsOf n) where
-    room-for : b + 1 + b + n ≤ length narrow
-    room-for = subst (λ (x : ℕ). x + 1 + x + n ≤ length narrow) (sym eb) (L .room)
+  -- of which the words of 32 bits are used up to the slots' end, with the slots from `from` on
+  module _ (b from : ℕ) (eb : b ≡ bucketsOf n) (ef : from ≡ slotsFrom b) where
+    room-for : from + n ≤ length narrow
+    room-for = omega (arith, L .room)
 
-    pub lent-words : length (take (b + 1 + b + n) narrow) ≡ b + 1 + b + n
-    lent-words = length-take-le (b + 1 + b + n) narrow room-for
+    pub lent-words : length (take (from + n) narrow) ≡ from + n
+    lent-words = length-take-le (from + n) narrow room-for
 
     -- the hashes put in front, and the words zeroed
-    pub prepared : (seed : ℕ) (e e′ : List ℕ) → length e ≡ length (take n wide) → length e′ ≡ length (take (b + 1 + b + n) narrow) → e ≡ hashesOf seed arena (length (take n wide)) → e′ ≡ replicate (length (take (b + 1 + b + n) narrow)) 0
-        → Fresh (e ++ drop n wide) (e′ ++ drop (b + 1 + b + n) narrow) n b × (take n (e ++ drop n wide) ≡ hashesOf seed arena n)
+    pub prepared : (seed : ℕ) (e e′ : List ℕ) → length e ≡ length (take n wide) → length e′ ≡ length (take (from + n) narrow) → e ≡ hashesOf seed arena (length (take n wide)) → e′ ≡ replicate (length (take (from + n) narrow)) 0
+        → Fresh (e ++ drop n wide) (e′ ++ drop (from + n) narrow) n b × (take n (e ++ drop n wide) ≡ hashesOf seed arena n)
     prepared seed e e′ le lw same z = (
       record {
         any = L .any;
         most = L .most;
         count = eb;
         long = length-front wide e n le ∙ L .long;
-        room = omega (arith, room-for, length-front narrow e′ (b + 1 + b + n) lw);
-        zero = zero-front narrow e′ (b + 1 + b + n) room-for z;
+        room = omega (arith, room-for, length-front narrow e′ (from + n) lw);
+        zero = λ k l. zero-front narrow e′ (from + n) room-for z k (omega arith);
       },
       take-at e (drop n wide) n (le ∙ lent-keys) ∙ same ∙ ap (hashesOf seed arena) lent-keys,
     )

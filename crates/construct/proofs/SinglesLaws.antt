@@ -13,10 +13,10 @@ use lib.Seq.{getD-take, getD-drop, getD-set-same, getD-set-other, take-set-le}
 use Rattle.laws.proofs.StepsLaws.{least-at, least-of-none}
 use Rattle.construct.specs.Construct.{direct, group, size, settle, pilotNoted, placeSingle, placeOf}
 use Rattle.construct.specs.Inner.Layout.{Bench, Stepped, FilledBelow, Lowest, SingleOf}
-use Rattle.construct.specs.Answer.{placing}
+use Rattle.construct.specs.Answer.{pilotsFrom, slotsFrom, pilotsIn, slotsIn, placing}
 use Rattle.construct.proofs.Placed.{member-of, of-one}
 use Rattle.construct.proofs.SlotsLaws.{settle-free, settle-taken}
-use Rattle.construct.proofs.PartsLaws.{part, set-inside, set-before, set-behind}
+use Rattle.construct.proofs.PartsLaws.{set-inside, set-before, set-behind}
 use Rattle.construct.proofs.BenchLaws.{bench-keys, bench-group, bench-size, bench-slots, same-placing, of-other}
 
 module _ (wide narrow : List ℕ) (n b : ℕ) (B : Bench wide narrow n b) (k : ℕ) (l : k < b) (one : getD narrow (k + 1) 0 - getD narrow k 0 ≡ 1) where
@@ -37,37 +37,37 @@ module _ (wide narrow : List ℕ) (n b : ℕ) (B : Bench wide narrow n b) (k : �
   as-single = of-one (take n wide) 1 k (placing n b narrow) (sym (bench-size wide narrow n b B k l) ∙ one) refl
 
   -- no slot is free
-  pub single-none : FilledBelow (part (b + 1 + b) n narrow) n → placeOf (take n wide) 1 k (placing n b narrow) ≡ none
+  pub single-none : FilledBelow (slotsIn n b narrow) n → placeOf (take n wide) 1 k (placing n b narrow) ≡ none
   unfolding placeSingle placing
   single-none t =
       as-single ∙ ap (Option·map (pilotNoted k direct (placing n b narrow)))
-      (least-of-none (λ at. settle at (getD (group (take n wide) k) 0 0) (part (b + 1 + b) n narrow)) (length (take n wide)) (λ q z. settle-taken q (getD (group (take n wide) k) 0 0) (part (b + 1 + b) n narrow) (t q (omega (arith, bench-keys wide narrow n b B)))))
+      (least-of-none (λ at. settle at (getD (group (take n wide) k) 0 0) (slotsIn n b narrow)) (length (take n wide)) (λ q z. settle-taken q (getD (group (take n wide) k) 0 0) (slotsIn n b narrow) (t q (omega (arith, bench-keys wide narrow n b B)))))
 
   -- slot `at` is the lowest free one
-  module _ (at : ℕ) (low : at < n) (t : FilledBelow (part (b + 1 + b) n narrow) at) (free : getD (part (b + 1 + b) n narrow) at 0 ≡ 0) where
+  module _ (at : ℕ) (low : at < n) (t : FilledBelow (slotsIn n b narrow) at) (free : getD (slotsIn n b narrow) at 0 ≡ 0) where
     v : ℕ
     v = getD wide (n + getD narrow k 0) 0 + 1
 
     after : List ℕ
-    after = set (set narrow (b + 1 + b + at) v) (b + 1 + k) (direct + at)
+    after = set (set narrow (slotsFrom b + at) v) (pilotsFrom b + k) (direct + at)
 
-    slots : part (b + 1 + b) n after ≡ set (part (b + 1 + b) n narrow) at v
+    slots : slotsIn n b after ≡ set (slotsIn n b narrow) at v
     unfolding after
-    slots = set-before (set narrow (b + 1 + b + at) v) (b + 1 + b) n (b + 1 + k) (direct + at) (omega arith) ∙ set-inside narrow (b + 1 + b) n at v low
+    slots = set-before (set narrow (slotsFrom b + at) v) (slotsFrom b) n (pilotsFrom b + k) (direct + at) (omega arith) ∙ set-inside narrow (slotsFrom b) n at v low
 
-    pilots : part (b + 1) b after ≡ set (part (b + 1) b narrow) k (direct + at)
+    pilots : pilotsIn b after ≡ set (pilotsIn b narrow) k (direct + at)
     unfolding after
-    pilots = set-inside (set narrow (b + 1 + b + at) v) (b + 1) b k (direct + at) l ∙ ap (λ (x : List ℕ). set x k (direct + at)) (set-behind narrow (b + 1) b (b + 1 + b + at) v (omega arith))
+    pilots = set-inside (set narrow (slotsFrom b + at) v) (pilotsFrom b) b k (direct + at) l ∙ ap (λ (x : List ℕ). set x k (direct + at)) (set-behind narrow (pilotsFrom b) b (slotsFrom b + at) v (omega arith))
 
-    pub single-some : Stepped (placeOf (take n wide) 1 k (placing n b narrow)) n b narrow (set (set narrow (b + 1 + b + at) (getD wide (n + getD narrow k 0) 0 + 1)) (b + 1 + k) (direct + at)) true
+    pub single-some : Stepped (placeOf (take n wide) 1 k (placing n b narrow)) n b narrow (set (set narrow (slotsFrom b + at) (getD wide (n + getD narrow k 0) 0 + 1)) (pilotsFrom b + k) (direct + at)) true
     unfolding placeSingle placing pilotNoted after v
     single-some = (
       as-single
           ∙ ap (Option·map (pilotNoted k direct (placing n b narrow)))
-          (least-at (λ a. settle a m (part (b + 1 + b) n narrow)) (length (take n wide)) at (set (part (b + 1 + b) n narrow) at (suc m)) (omega (arith, bench-keys wide narrow n b B))
-          (λ q z. settle-taken q m (part (b + 1 + b) n narrow) (t q z)) (settle-free at m (part (b + 1 + b) n narrow) free))
-          ∙ ap some (same-placing _ _ _ _ (sym pilots) (ap (set (part (b + 1 + b) n narrow) at) (sym value) ∙ sym slots)),
-      take-set-le (b + 1) (set narrow (b + 1 + b + at) v) (b + 1 + k) (direct + at) (omega arith) ∙ take-set-le (b + 1) narrow (b + 1 + b + at) v (omega arith),
+          (least-at (λ a. settle a m (slotsIn n b narrow)) (length (take n wide)) at (set (slotsIn n b narrow) at (suc m)) (omega (arith, bench-keys wide narrow n b B))
+          (λ q z. settle-taken q m (slotsIn n b narrow) (t q z)) (settle-free at m (slotsIn n b narrow) free))
+          ∙ ap some (same-placing _ _ _ _ (sym pilots) (ap (set (slotsIn n b narrow) at) (sym value) ∙ sym slots)),
+      take-set-le (pilotsFrom b) (set narrow (slotsFrom b + at) v) (pilotsFrom b + k) (direct + at) (omega arith) ∙ take-set-le (pilotsFrom b) narrow (slotsFrom b + at) v (omega arith),
     )
       where
         m : ℕ
@@ -76,47 +76,47 @@ module _ (wide narrow : List ℕ) (n b : ℕ) (B : Bench wide narrow n b) (k : �
         value : v ≡ suc m
         value = ap (λ (x : ℕ). x + 1) single-member ∙ add-one m
 
-    pub single-taken : FilledBelow (placing n b (set (set narrow (b + 1 + b + at) (getD wide (n + getD narrow k 0) 0 + 1)) (b + 1 + k) (direct + at)) .slots) (at + 1)
+    pub single-taken : FilledBelow (placing n b (set (set narrow (slotsFrom b + at) (getD wide (n + getD narrow k 0) 0 + 1)) (pilotsFrom b + k) (direct + at)) .slots) (at + 1)
     unfolding placing after v
     single-taken x lx e = go (ℕ-discrete x at)
       where
-        here : getD (set (part (b + 1 + b) n narrow) at v) x 0 ≡ 0
+        here : getD (set (slotsIn n b narrow) at v) x 0 ≡ 0
         here = ap (λ (y : List ℕ). getD y x 0) (sym slots) ∙ e
 
         go : Dec (x ≡ at) → ⊥
-        go (yes z) = omega (arith, here, ap (λ (y : ℕ). getD (set (part (b + 1 + b) n narrow) at v) y 0) z, getD-set-same (part (b + 1 + b) n narrow) at v 0 (omega (arith, bench-slots wide narrow n b B k l)))
-        go (no z) = t x (lt-of-le-of-ne (omega arith) z) (sym (getD-set-other (part (b + 1 + b) n narrow) at x v 0 z) ∙ here)
+        go (yes z) = omega (arith, here, ap (λ (y : ℕ). getD (set (slotsIn n b narrow) at v) y 0) z, getD-set-same (slotsIn n b narrow) at v 0 (omega (arith, bench-slots wide narrow n b B k l)))
+        go (no z) = t x (lt-of-le-of-ne (omega arith) z) (sym (getD-set-other (slotsIn n b narrow) at x v 0 z) ∙ here)
 
--- what the pass of single buckets answers of bucket k, with m the length of the lent slots, which is n
+-- what the pass of single buckets answers of bucket k, with s the slots as they are lent
 module _ (wide narrow : List ℕ) (n b : ℕ) (B : Bench wide narrow n b) (k : ℕ) (l : k < b) where
   pub single-other : (from : ℕ) → from ≤ n → FilledBelow (placing n b narrow .slots) from → (getD narrow (k + 1) 0 - getD narrow k 0 ≡ 1 → ⊥) → SingleOf (take n wide) k n b narrow narrow from
   single-other from le t z = record { went = λ _. of-other wide narrow n b B k l 1 z; taken = λ _. t; failed = λ q. absurd (omega arith) }
 
-  module _ (m : ℕ) (em : m ≡ n) where
-    pub lent-taken : (from : ℕ) → from ≤ n → FilledBelow (placing n b narrow .slots) from → (from ≤ length (part (b + 1 + b) m narrow)) × FilledBelow (part (b + 1 + b) m narrow) from
+  module _ (s : List ℕ) (es : s ≡ slotsIn n b narrow) where
+    pub lent-taken : (from : ℕ) → from ≤ n → FilledBelow (placing n b narrow .slots) from → (from ≤ length s) × FilledBelow s from
     unfolding placing
-    lent-taken from le t = subst (λ (x : ℕ). (from ≤ length (part (b + 1 + b) x narrow)) × FilledBelow (part (b + 1 + b) x narrow) from) (sym em) (omega (arith, bench-slots wide narrow n b B k l), t)
+    lent-taken from le t = subst (λ (x : List ℕ). (from ≤ length x) × FilledBelow x from) (sym es) (omega (arith, bench-slots wide narrow n b B k l), t)
 
-    module _ (one : getD narrow (k + 1) 0 - getD narrow k 0 ≡ 1) (at : ℕ) (low : Lowest (part (b + 1 + b) m narrow) at) where
-      low-n : Lowest (part (b + 1 + b) n narrow) at
-      low-n = subst (λ (x : ℕ). Lowest (part (b + 1 + b) x narrow) at) em low
+    module _ (one : getD narrow (k + 1) 0 - getD narrow k 0 ≡ 1) (at : ℕ) (low : Lowest s at) where
+      low-n : Lowest (slotsIn n b narrow) at
+      low-n = subst (λ (x : List ℕ). Lowest x at) es low
 
       pub single-full : at ≡ n → SingleOf (take n wide) k n b narrow narrow (n + 1)
       single-full e = record {
         went = λ q. absurd (omega arith);
         taken = λ q. absurd (omega arith);
-        failed = λ _. single-none wide narrow n b B k l one (subst (FilledBelow (part (b + 1 + b) n narrow)) e (low-n .taken));
+        failed = λ _. single-none wide narrow n b B k l one (subst (FilledBelow (slotsIn n b narrow)) e (low-n .taken));
       }
 
       pub single-low : (at ≡ n → ⊥) → at < n
       single-low e = lt-of-le-of-ne (omega (arith, low-n .most, bench-slots wide narrow n b B k l)) e
 
-      pub single-put : (at ≡ n → ⊥) → (narrow′ : List ℕ) → narrow′ ≡ set (set narrow (b + 1 + b + at) (getD wide (n + getD narrow k 0) 0 + 1)) (b + 1 + k) (direct + at) → SingleOf (take n wide) k n b narrow narrow′ (at + 1)
+      pub single-put : (at ≡ n → ⊥) → (narrow′ : List ℕ) → narrow′ ≡ set (set narrow (slotsFrom b + at) (getD wide (n + getD narrow k 0) 0 + 1)) (pilotsFrom b + k) (direct + at) → SingleOf (take n wide) k n b narrow narrow′ (at + 1)
       single-put e narrow′ e′ = subst (λ (x : List ℕ). SingleOf (take n wide) k n b narrow x (at + 1)) (sym e′) (record {
         went = λ _. single-some wide narrow n b B k l one at (single-low e) (low-n .taken) free;
         taken = λ _. single-taken wide narrow n b B k l one at (single-low e) (low-n .taken) free;
         failed = λ q. absurd (omega (arith, single-low e));
       })
         where
-          free : getD (part (b + 1 + b) n narrow) at 0 ≡ 0
+          free : getD (slotsIn n b narrow) at 0 ≡ 0
           free = low-n .free (omega (arith, single-low e, bench-slots wide narrow n b B k l))

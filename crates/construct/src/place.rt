@@ -1,9 +1,10 @@
 // Buckets placed in the words of the workspace: where each bucket's keys begin, the pilots, the slots.
 use super::Constructed;
+use super::places::pilots_from;
+use super::places::slots_from;
 use super::seat::find_pilot;
-ghost use mathlib.Core.Path.{_≡_};
-ghost use Prim.Native.Nat.{ℕ, _<_, _≤_, _+_, _-_};
-ghost use lib.ListN.{length, take};
+ghost use Prim.Native.Nat.{_<_, _-_};
+ghost use lib.ListN.{take};
 ghost use Rattle.laws.specs.Steps.{steps};
 ghost use Rattle.construct.specs.Construct.{placeGroup, placeOf, placeSize, placeDown};
 ghost use Rattle.construct.specs.Inner.Layout.{Bench, Stepped};
@@ -17,12 +18,12 @@ fn place_group(wide: &[u64], narrow: &mut [u32], n: usize, b: usize, k: usize) -
 {
     let s = n + (narrow[k] as usize);
     let e = n + (narrow[k + 1] as usize);
-    let base = b + 1 + b;
+    let base = slots_from(b);
     let p = find_pilot(&wide[..n], &wide[s..e], &mut narrow[base..base + n]);
     if p == Constructed::TRIES {
         return false;
     }
-    narrow[b + 1 + k] = p;
+    narrow[pilots_from(b) + k] = p;
     true
 }
 

@@ -1,11 +1,14 @@
 // Buckets of one member: each takes the lowest free slot.
+use super::places::pilots_from;
+use super::places::slots;
+use super::places::slots_from;
 use mixing::slot::Pilot;
 ghost use mathlib.Core.Path.{_≡_};
-ghost use Prim.Native.Nat.{ℕ, _<_, _≤_, _+_, _-_};
+ghost use Prim.Native.Nat.{_<_, _≤_, _+_, _-_};
 ghost use lib.ListN.{length, getD, set, take};
 ghost use Rattle.construct.specs.Construct.{direct, placeSize};
 ghost use Rattle.construct.specs.Inner.Layout.{Bench, Stepped, FilledBelow, Lowest, SingleOf};
-ghost use Rattle.construct.specs.Answer.{placing};
+ghost use Rattle.construct.specs.Answer.{pilotsFrom, slotsFrom, placing};
 
 // The lowest free slot, where those below `from` are taken.
 fn next_free(slots: &[u32], from: usize) -> usize
@@ -26,12 +29,12 @@ fn next_free(slots: &[u32], from: usize) -> usize
 fn put_single(wide: &[u64], narrow: &mut [u32], n: usize, b: usize, k: usize, at: usize)
     requires { ⌜ Bench (now wide) (now narrow) n b ⌝ }
     requires { ⌜ (k < b) × (getD (now narrow) (k + 1) 0 - getD (now narrow) k 0 ≡ 1) × (at < n) ⌝ }
-    ensures { λ _. ⌜ now (narrow .exit) ≡ set (set (now (narrow .entry)) (b + 1 + b + at) (getD (now (wide .entry)) (n + getD (now (narrow .entry)) k 0) 0 + 1)) (b + 1 + k) (direct + at) ⌝ }
+    ensures { λ _. ⌜ now (narrow .exit) ≡ set (set (now (narrow .entry)) (slotsFrom b + at) (getD (now (wide .entry)) (n + getD (now (narrow .entry)) k 0) 0 + 1)) (pilotsFrom b + k) (direct + at) ⌝ }
 {
     let s = n + (narrow[k] as usize);
     let m = wide[s];
-    narrow[b + 1 + b + at] = (m + 1) as u32;
-    narrow[b + 1 + k] = Pilot::DIRECT + (at as u32);
+    narrow[slots_from(b) + at] = (m + 1) as u32;
+    narrow[pilots_from(b) + k] = Pilot::DIRECT + (at as u32);
 }
 
 // Places bucket k if it has one member, and answers how far the slots are taken, or more than n where none is free.
@@ -43,8 +46,7 @@ fn single_of(wide: &[u64], narrow: &mut [u32], n: usize, b: usize, k: usize, fro
     if narrow[k + 1] - narrow[k] != 1 {
         return from;
     }
-    let base = b + 1 + b;
-    let at = next_free(&narrow[base..base + n], from);
+    let at = next_free(slots(narrow, n, b), from);
     if at == n {
         return n + 1;
     }
