@@ -178,11 +178,11 @@ pub example-body : bodyOf exampleArena (keysOf exampleArena) ≡ exampleBody
 unfolding bodyOf
 example-body = rw (example-keys, example-placed) bytes-are
 
-pub example-output : {o w u o' w' u' : List ℕ} {r : Finished} → ExampleRoom o w u → FinishPost exampleArena o w u r o' w' u'
-    → (r ≡ Body 204) × (take 204 o' ≡ exampleBody)
-example-output {o} {w} {u} {o'} {w'} {u'} R P =
-    let e = P .answer ∙ example-finished (length o) (length w) (length u) (R .out-room) (R .wide-room) (R .narrow-room) in
-    (e, output-body example-bytes (subst (λ (x : Finished). FinishPost exampleArena o w u x o' w' u') e P) ∙ example-body)
+pub example-output : {out wide narrow out' wide' narrow' : List ℕ} {r : Finished} → ExampleRoom out wide narrow → FinishPost exampleArena out wide narrow r out' wide' narrow'
+    → (r ≡ Body 204) × (take 204 out' ≡ exampleBody)
+example-output {out} {wide} {narrow} {out'} {wide'} {narrow'} R P =
+    let e = P .answer ∙ example-finished (length out) (length wide) (length narrow) (R .out-room) (R .wide-room) (R .narrow-room) in
+    (e, output-body example-bytes (subst (λ (x : Finished). FinishPost exampleArena out wide narrow x out' wide' narrow') e P) ∙ example-body)
 
 -- ---- validation and get
 

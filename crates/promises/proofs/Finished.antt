@@ -37,19 +37,19 @@ use Rattle.promises.specs.Finished.{ListFinished, ReadsLike, RoomFor, On
 
 -- ---- the output of a finish that answers a body
 
-module _ {arena o w u o' w' u' : List ℕ} {k : ℕ} (all : AllBytes arena) (P : FinishPost arena o w u (Body k) o' w' u') where
-  no-refusal : finishRefusal arena (length o) (length w) (length u) ≡ 0
-  no-refusal = sym (finish-number arena (length o) (length w) (length u)) ∙ ap finishedNumber (sym (P .answer))
+module _ {arena out wide narrow out' wide' narrow' : List ℕ} {k : ℕ} (all : AllBytes arena) (P : FinishPost arena out wide narrow (Body k) out' wide' narrow') where
+  no-refusal : finishRefusal arena (length out) (length wide) (length narrow) ≡ 0
+  no-refusal = sym (finish-number arena (length out) (length wide) (length narrow)) ∙ ap finishedNumber (sym (P .answer))
 
-  output-splice : o' ≡ splice o 0 (bodyOf arena (keysOf arena))
+  output-splice : out' ≡ splice out 0 (bodyOf arena (keysOf arena))
   unfolding outAfter
-  output-splice = P .out-after ∙ ap (λ (x : ℕ). cond (eqb x 0) (splice o 0 (bodyOf arena (keysOf arena))) o) no-refusal
+  output-splice = P .out-after ∙ ap (λ (x : ℕ). cond (eqb x 0) (splice out 0 (bodyOf arena (keysOf arena))) out) no-refusal
 
-  pub output-body : take k o' ≡ bodyOf arena (keysOf arena)
+  pub output-body : take k out' ≡ bodyOf arena (keysOf arena)
   unfolding splice
   output-body =
       ap (take k) output-splice
-      ∙ take-at (bodyOf arena (keysOf arena)) _ k (finish-length arena (length o) (length w) (length u) k all (sym (P .answer)))
+      ∙ take-at (bodyOf arena (keysOf arena)) _ k (finish-length arena (length out) (length wide) (length narrow) k all (sym (P .answer)))
 
 -- ---- a list that was taken and finished
 
@@ -61,36 +61,36 @@ table-again arena list all e rules whole =
     let r = read-back unslotted arena Untested 0 0 (length arena) all (omega arith) in
     r .only list (table-fits Untested list rules) (sym e ∙ sym (take-all (walked arena .end - 0) arena (omega arith)))
 
-module _ {s : PointBuilder} {buffer : List ℕ} {list : List Entry} {o w u o' w' u' : List ℕ} {k : ℕ}
-    (t : TakenList s buffer list) (F : ListFinished s buffer o w u k o' w' u') where
-  body : take k o' ≡ bodyOf (take (s .used) buffer) (keysOf (take (s .used) buffer))
+module _ {s : PointBuilder} {buffer : List ℕ} {list : List Entry} {out wide narrow out' wide' narrow' : List ℕ} {k : ℕ}
+    (t : TakenList s buffer list) (F : ListFinished s buffer out wide narrow k out' wide' narrow') where
+  body : take k out' ≡ bodyOf (take (s .used) buffer) (keysOf (take (s .used) buffer))
   body = output-body (taken-bytes t) F
 
-  answered : finishOf (take (s .used) buffer) (length o) (length w) (length u) ≡ Body k
+  answered : finishOf (take (s .used) buffer) (length out) (length wide) (length narrow) ≡ Body k
   answered = sym (F .answer)
 
   same : list ≡ entriesFrom (take (s .used) buffer) 0 (keysOf (take (s .used) buffer))
   same =
       table-again (take (s .used) buffer) list (taken-bytes t) (taken-facts t .bytes) (taken-facts t .rules)
-      (made (take (s .used) buffer) (length o) (length w) (length u) k answered .whole)
+      (made (take (s .used) buffer) (length out) (length wide) (length narrow) k answered .whole)
 
-  accepted : (size : ℕ) → TableInData size list → validateOf (take k o') size ≡ Accepted
+  accepted : (size : ℕ) → TableInData size list → validateOf (take k out') size ≡ Accepted
   accepted size inside =
       ap (λ (b : List ℕ). validateOf b size) body
-      ∙ finish-accepted (take (s .used) buffer) (length o) (length w) (length u) k (taken-bytes t) answered size (subst (TableInData size) same inside)
+      ∙ finish-accepted (take (s .used) buffer) (length out) (length wide) (length narrow) k (taken-bytes t) answered size (subst (TableInData size) same inside)
 
-  table : tableOf (take k o') ≡ list
-  table = ap tableOf body ∙ finish-table (take (s .used) buffer) (length o) (length w) (length u) k (taken-bytes t) answered ∙ sym same
+  table : tableOf (take k out') ≡ list
+  table = ap tableOf body ∙ finish-table (take (s .used) buffer) (length out) (length wide) (length narrow) k (taken-bytes t) answered ∙ sym same
 
-  body-bytes : AllBytes (take k o')
-  body-bytes = subst AllBytes (sym body) (finish-bytes (take (s .used) buffer) (length o) (length w) (length u) k (taken-bytes t) answered)
+  body-bytes : AllBytes (take k out')
+  body-bytes = subst AllBytes (sym body) (finish-bytes (take (s .used) buffer) (length out) (length wide) (length narrow) k (taken-bytes t) answered)
 
-  pub reads-like : ReadsLike (take k o') list
+  pub reads-like : ReadsLike (take k out') list
   reads-like = record {
     list-table = table;
     list-accepted = accepted;
     list-read = λ size inside key limit.
-        get-is-lookup (take k o') size (accepted size inside) body-bytes key limit ∙ ap (λ (x : List Entry). answerTo (lookup x key limit)) table;
+        get-is-lookup (take k out') size (accepted size inside) body-bytes key limit ∙ ap (λ (x : List Entry). answerTo (lookup x key limit)) table;
     list-value = λ {bytes} {key} {limit} {lent} {part} {place} p inside.
         subst
         (λ (x : List Entry). (part ≡ partOf bytes (answerTo (lookup x key limit))) × (place .0 ≡ lent .0) × (place .1 ≡ lent .1 + startOf (answerTo (lookup x key limit))))
@@ -112,13 +112,13 @@ lengths-pass {s} {buffer} {list} {out} {wide} {narrow} t any R =
     subst (λ (n : ℕ). arenaStart n + length arena ≤ out) (sym keys) (omega (arith, length-take (s .used) buffer, R .out-room)) in
     (keys, sym (length-fits (length arena) (walked arena .end) (keysOf arena) out wide narrow end none (omega arith) (omega (arith, R .wide-room)) (omega (arith, R .narrow-room)) fits))
 
-taken-answered : {s : PointBuilder} {buffer o w u o' w' u' : List ℕ} {list : List Entry} {r : Finished}
-    → TakenList s buffer list → 0 < length list → RoomFor s list (length o) (length w) (length u)
-    → FinishPost (take (s .used) buffer) o w u r o' w' u' → (finishedNumber r ≡ 0) ⊎ (finishedNumber r ≡ 10)
-taken-answered {s} {buffer} {o} {w} {u} t any R P =
+taken-answered : {s : PointBuilder} {buffer out wide narrow out' wide' narrow' : List ℕ} {list : List Entry} {r : Finished}
+    → TakenList s buffer list → 0 < length list → RoomFor s list (length out) (length wide) (length narrow)
+    → FinishPost (take (s .used) buffer) out wide narrow r out' wide' narrow' → (finishedNumber r ≡ 0) ⊎ (finishedNumber r ≡ 10)
+taken-answered {s} {buffer} {out} {wide} {narrow} t any R P =
     let pass = lengths-pass t any R in
     subst (λ (x : Finished). (finishedNumber x ≡ 0) ⊎ (finishedNumber x ≡ 10)) (sym (P .answer))
-    (body-or-ten (take (s .used) buffer) (length o) (length w) (length u) (omega (arith, pass .0)) (pass .1))
+    (body-or-ten (take (s .used) buffer) (length out) (length wide) (length narrow) (omega (arith, pass .0)) (pass .1))
 
 -- THEOREM: demand 3, of a list that was taken and finished
 pub on-finished : OnFinished

@@ -69,38 +69,38 @@ one-number : (out wide narrow : ℕ) → finishedNumber (finishOf oneArena out w
 one-number out wide narrow e =
     Option·some-ne-none _ (sym (one-key (hashOf (seedOf 0) (arenaKey oneArena 0))) ∙ ap attemptOf (sym (one-hashes 0)) ∙ ten-exhausts oneArena out wide narrow e 0 (omega arith))
 
-never-ten : {o w u o' w' u' : List ℕ} → FinishPost oneArena o w u (Refused 10) o' w' u' → ⊥
-never-ten {o} {w} {u} P = one-number (length o) (length w) (length u) (ap finishedNumber (sym (P .answer)))
+never-ten : {out wide narrow out' wide' narrow' : List ℕ} → FinishPost oneArena out wide narrow (Refused 10) out' wide' narrow' → ⊥
+never-ten {out} {wide} {narrow} P = one-number (length out) (length wide) (length narrow) (ap finishedNumber (sym (P .answer)))
 
-module _ {o w u o' w' u' : List ℕ} {r : Finished} (R : OneRoom o w u) (P : FinishPost oneArena o w u r o' w' u') where
-  one-fits : lengthsRefusal oneArena (length o) (length w) (length u) ≡ 0
+module _ {out wide narrow out' wide' narrow' : List ℕ} {r : Finished} (R : OneRoom out wide narrow) (P : FinishPost oneArena out wide narrow r out' wide' narrow') where
+  one-fits : lengthsRefusal oneArena (length out) (length wide) (length narrow) ≡ 0
   one-fits =
       sym
-      (length-fits (length oneArena) (walked oneArena .end) (keysOf oneArena) (length o) (length w) (length u) one-end
+      (length-fits (length oneArena) (walked oneArena .end) (keysOf oneArena) (length out) (length wide) (length narrow) one-end
       (λ z. omega (arith, one-keys)) (omega (arith, one-keys)) (omega (arith, one-keys, R .wide-room)) (omega (arith, one-keys, R .narrow-room)) (omega (arith, one-body, R .out-room)))
 
   one-finished : r ≡ Body 78
   unfolding finishOf
-  one-finished = go (body-or-ten oneArena (length o) (length w) (length u) (omega (arith, one-keys)) one-fits)
+  one-finished = go (body-or-ten oneArena (length out) (length wide) (length narrow) (omega (arith, one-keys)) one-fits)
     where
-      go : (finishedNumber (finishOf oneArena (length o) (length w) (length u)) ≡ 0) ⊎ (finishedNumber (finishOf oneArena (length o) (length w) (length u)) ≡ 10) → r ≡ Body 78
+      go : (finishedNumber (finishOf oneArena (length out) (length wide) (length narrow)) ≡ 0) ⊎ (finishedNumber (finishOf oneArena (length out) (length wide) (length narrow)) ≡ 10) → r ≡ Body 78
       go (inl z) =
-          P .answer ∙ ap (λ (x : ℕ). answered x (bodyLength oneArena (keysOf oneArena))) (sym (finish-number oneArena (length o) (length w) (length u)) ∙ z) ∙ ap Body one-body
-      go (inr t) = absurd (one-number (length o) (length w) (length u) t)
+          P .answer ∙ ap (λ (x : ℕ). answered x (bodyLength oneArena (keysOf oneArena))) (sym (finish-number oneArena (length out) (length wide) (length narrow)) ∙ z) ∙ ap Body one-body
+      go (inr t) = absurd (one-number (length out) (length wide) (length narrow) t)
 
-  one-post : FinishPost oneArena o w u (Body 78) o' w' u'
-  one-post = subst (λ (x : Finished). FinishPost oneArena o w u x o' w' u') one-finished P
+  one-post : FinishPost oneArena out wide narrow (Body 78) out' wide' narrow'
+  one-post = subst (λ (x : Finished). FinishPost oneArena out wide narrow x out' wide' narrow') one-finished P
 
-  one-found : getOf (take 78 o') 8 (65 ∷ []) None ≡ Found (putOf 9 0)
+  one-found : getOf (take 78 out') 8 (65 ∷ []) None ≡ Found (putOf 9 0)
   unfolding oneTable lookup recordsOf greatest better within sameAs
   one-found =
       let inside : 0 + 8 ≤ 8 = omega arith in
       let covered : TableInData 8 oneTable = each-more (each-more inside each-none) each-none in
       ap (λ (b : List ℕ). getOf b 8 (65 ∷ []) None) (output-body one-bytes one-post)
-      ∙ finish-get oneArena (length o) (length w) (length u) 78 one-bytes (sym (one-post .answer)) 8 (subst (TableInData 8) (sym one-entries) covered) (65 ∷ []) None
+      ∙ finish-get oneArena (length out) (length wide) (length narrow) 78 one-bytes (sym (one-post .answer)) 8 (subst (TableInData 8) (sym one-entries) covered) (65 ∷ []) None
       ∙ ap (λ (t : List Entry). answerTo (lookup t (65 ∷ []) None)) one-entries
 
-  never-nothing : getOf (take 78 o') 8 (65 ∷ []) None ≡ Nothing → ⊥
+  never-nothing : getOf (take 78 out') 8 (65 ∷ []) None ≡ Nothing → ⊥
   never-nothing e = omega (arith, ap answerNumber (sym one-found ∙ e))
 
 -- ---- three keys: document 01's example
@@ -110,37 +110,37 @@ body-keys : keysIn exampleBody ≡ 3
 unfolding exampleBody le spelled
 body-keys = refl
 
-module _ {o w u o' w' u' : List ℕ} {r : Finished} (R : ExampleRoom o w u) (P : FinishPost exampleArena o w u r o' w' u') where
+module _ {out wide narrow out' wide' narrow' : List ℕ} {r : Finished} (R : ExampleRoom out wide narrow) (P : FinishPost exampleArena out wide narrow r out' wide' narrow') where
   all-finished : r ≡ Body 204
   all-finished = example .example-output R P .0
 
-  found : (key : List ℕ) → getOf (take 204 o') 116 key None ≡ answerTo (lookup exampleTable key None)
+  found : (key : List ℕ) → getOf (take 204 out') 116 key None ≡ answerTo (lookup exampleTable key None)
   found key = ap (λ (b : List ℕ). getOf b 116 key None) (example .example-output R P .1) ∙ example .example-read key None
 
-  all-found : (getOf (take 204 o') 116 (65 ∷ []) None ≡ Found (putOf 9 100))
-      × (getOf (take 204 o') 116 (66 ∷ []) None ≡ Found (record { kind = Tombstone; sequence = 7; offset = 108; length = 0 }))
-      × (getOf (take 204 o') 116 (67 ∷ []) None ≡ Found (putOf 12 108))
+  all-found : (getOf (take 204 out') 116 (65 ∷ []) None ≡ Found (putOf 9 100))
+      × (getOf (take 204 out') 116 (66 ∷ []) None ≡ Found (record { kind = Tombstone; sequence = 7; offset = 108; length = 0 }))
+      × (getOf (take 204 out') 116 (67 ∷ []) None ≡ Found (putOf 12 108))
   unfolding exampleTable lookup recordsOf greatest better within sameAs
   all-found = (found (65 ∷ []), found (66 ∷ []), found (67 ∷ []))
 
-  slots-owned : (s : ℕ) → s < 3 → OneBelow 3 (Belongs (take 204 o') s)
+  slots-owned : (s : ℕ) → s < 3 → OneBelow 3 (Belongs (take 204 out') s)
   slots-owned s l =
       subst (λ (b : List ℕ). OneBelow 3 (Belongs b s)) (sym (example .example-output R P .1))
       (subst (λ (n : ℕ). OneBelow n (Belongs exampleBody s)) body-keys (slot-owner exampleBody 116 (example .example-accepted) s (omega (arith, body-keys))))
 
-  keys-placed : (i : ℕ) → i < 3 → OneBelow 3 (λ s. Belongs (take 204 o') s i)
+  keys-placed : (i : ℕ) → i < 3 → OneBelow 3 (λ s. Belongs (take 204 out') s i)
   keys-placed i l =
       subst (λ (b : List ℕ). OneBelow 3 (λ s. Belongs b s i)) (sym (example .example-output R P .1))
       (subst (λ (n : ℕ). OneBelow n (λ s. Belongs exampleBody s i)) body-keys (owner-slot exampleBody 116 (example .example-accepted) i (omega (arith, body-keys))))
 
-  never-unplaced : (i : ℕ) → 0 < i → i < 3 → ((s : ℕ) → s < 3 → Belongs (take 204 o') s i → ⊥) → ⊥
+  never-unplaced : (i : ℕ) → 0 < i → i < 3 → ((s : ℕ) → s < 3 → Belongs (take 204 out') s i → ⊥) → ⊥
   never-unplaced i other low f = let p = keys-placed i low in f (p .number) (p .low) (p .has)
 
-  never-first-only : (getOf (take 204 o') 116 (66 ∷ []) None ≡ Nothing) ⊎ (getOf (take 204 o') 116 (67 ∷ []) None ≡ Nothing) → ⊥
+  never-first-only : (getOf (take 204 out') 116 (66 ∷ []) None ≡ Nothing) ⊎ (getOf (take 204 out') 116 (67 ∷ []) None ≡ Nothing) → ⊥
   never-first-only (inl e) = omega (arith, ap answerNumber (sym (all-found .1) ∙ e))
   never-first-only (inr e) = omega (arith, ap answerNumber (sym (all-found .2) ∙ e))
 
-  three : ThreeKeys r o'
+  three : ThreeKeys r out'
   three = record {
     all-finished = all-finished;
     all-found = all-found;

@@ -49,25 +49,25 @@ space-left refusal space after e = record {
   zeroed = λ z. e ∙ ap (λ (b : Bool). cond b (replicate (length space) 0) space) (eq-eqb refusal 0 z);
 }
 
-module _ {arena o w u : List ℕ} {r : Finished} {o′ w′ u′ : List ℕ} (P : FinishPost arena o w u r o′ w′ u′) where
-  number-is : finishedNumber r ≡ finishRefusal arena (length o) (length w) (length u)
-  number-is = ap finishedNumber (P .answer) ∙ finish-number arena (length o) (length w) (length u)
+module _ {arena out wide narrow : List ℕ} {r : Finished} {out' wide' narrow' : List ℕ} (P : FinishPost arena out wide narrow r out' wide' narrow') where
+  number-is : finishedNumber r ≡ finishRefusal arena (length out) (length wide) (length narrow)
+  number-is = ap finishedNumber (P .answer) ∙ finish-number arena (length out) (length wide) (length narrow)
 
-  out-kept : (finishRefusal arena (length o) (length w) (length u) ≡ 0 → ⊥) → o′ ≡ o
+  out-kept : (finishRefusal arena (length out) (length wide) (length narrow) ≡ 0 → ⊥) → out' ≡ out
   unfolding outAfter
-  out-kept n = P .out-after ∙ rw (ne-eqb (finishRefusal arena (length o) (length w) (length u)) 0 n)
+  out-kept n = P .out-after ∙ rw (ne-eqb (finishRefusal arena (length out) (length wide) (length narrow)) 0 n)
 
-  pub finish-refusals : FinishRefused arena o w u r o′ w′ u′
+  pub finish-refusals : FinishRefused arena out wide narrow r out' wide' narrow'
   finish-refusals =
       let given = ap finishedNumber (P .answer) in
       record {
-        finish-refused = λ n l e. (cause-first arena (length o) (length w) (length u) n l (sym given ∙ e), out-kept (λ z. omega (arith, number-is)));
-        refused-finish = λ n f. given ∙ cause-given arena (length o) (length w) (length u) n f;
-        ten-cause = λ e. ten-attempts arena (length o) (length w) (length u) (sym given ∙ e);
-        cause-ten = λ z f. given ∙ attempts-ten arena (length o) (length w) (length u) z f;
-        never-eleven = λ e. never-eleven arena (length o) (length w) (length u) (sym given ∙ e);
-        wide-space = space-left _ w w′ (P .wide-after);
-        narrow-space = space-left _ u u′ (P .narrow-after);
+        finish-refused = λ n l e. (cause-first arena (length out) (length wide) (length narrow) n l (sym given ∙ e), out-kept (λ z. omega (arith, number-is)));
+        refused-finish = λ n f. given ∙ cause-given arena (length out) (length wide) (length narrow) n f;
+        ten-cause = λ e. ten-attempts arena (length out) (length wide) (length narrow) (sym given ∙ e);
+        cause-ten = λ z f. given ∙ attempts-ten arena (length out) (length wide) (length narrow) z f;
+        never-eleven = λ e. never-eleven arena (length out) (length wide) (length narrow) (sym given ∙ e);
+        wide-space = space-left _ wide wide' (P .wide-after);
+        narrow-space = space-left _ narrow narrow' (P .narrow-after);
       }
 
 get-refusals : (body key : List ℕ) → GetRefused body key

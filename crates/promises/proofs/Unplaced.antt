@@ -88,13 +88,13 @@ pair-length : arenaStart (length pairTable) + length pairArena ≡ 150
 unfolding arenaStart bucketsOf pairArena pairTable tableBytes entryBytes versionsBytes versionBytes bytesOf
 pair-length = refl
 
-ten-given : {s : PointBuilder} {buffer o w u o' w' u' : List ℕ} {r : Finished} → TakenList s buffer pairTable → PairRoom o w u
-    → FinishPost (take (s .used) buffer) o w u r o' w' u' → finishedNumber r ≡ 10
+ten-given : {s : PointBuilder} {buffer out wide narrow out' wide' narrow' : List ℕ} {r : Finished} → TakenList s buffer pairTable → PairRoom out wide narrow
+    → FinishPost (take (s .used) buffer) out wide narrow r out' wide' narrow' → finishedNumber r ≡ 10
 unfolding pairArena pairTable
-ten-given {s} {buffer} {o} {w} {u} t R P =
+ten-given {s} {buffer} {out} {wide} {narrow} t R P =
     let used : take (s .used) buffer ≡ pairArena = taken-kept t .arena in
     let full : s .used ≡ length pairArena = ap (λ (x : PointBuilder). x .used) (taken-state t) in
-    let room : RoomFor s pairTable (length o) (length w) (length u) = record { out-room = omega (arith, R .out-room, pair-length); wide-room = R .wide-room; narrow-room = R .narrow-room } in
+    let room : RoomFor s pairTable (length out) (length wide) (length narrow) = record { out-room = omega (arith, R .out-room, pair-length); wide-room = R .wide-room; narrow-room = R .narrow-room } in
     let pass = lengths-pass t (omega arith) room .1 in
     finish-refusals P .cause-ten pass (λ i l. subst (λ (a : List ℕ). AttemptFails (attemptHashes a (keysOf a) i)) (sym used) (pair-fails i l))
 
