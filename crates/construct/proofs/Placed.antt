@@ -45,7 +45,7 @@ unfolding indexOf
 index-by h pilots n b e = ap (λ (x : ℕ). slotBy h (getD pilots (bucketOf h x) 0) n) e
 
 -- every pilot that is tried is below the mark
-pub tries-fit : tries ≤ direct
+tries-fit : tries ≤ direct
 unfolding tries
 tries-fit = lit≤ tt
 

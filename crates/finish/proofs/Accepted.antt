@@ -34,7 +34,6 @@ use Rattle.construct.specs.Construct.{bucketsOf, direct, size, Placing, slotBy,
 use Rattle.construct.specs.Keys.{arenaKey, attemptHashes}
 use Rattle.construct.specs.Promised.{AllPlaced, Pilots}
 use Rattle.construct.proofs.KeysLaws.{hashes-long}
-use Rattle.construct.proofs.Placed.{tries-fit}
 use Rattle.point.specs.declared.Validated.the-variants.{Accepted}
 use Rattle.point.specs.Validate.{pilotsRefusal, validateOf}
 use Rattle.point.specs.Get.{getOf}
