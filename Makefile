@@ -18,7 +18,7 @@ QUIET = mkdir -p target && quiet() { "$$@" > target/quiet.log 2>&1 || { cat targ
 .PHONY: test run wrong bindings compare compare-tool compare-files compare-hashes bench speed stack robust vectors
 test:
 	@sh scripts/check-toolchain
-	@sh scripts/check-quotes
+	@sh scripts/check-quotes && sh scripts/test-check-trust
 	@sh scripts/check-specs && sh scripts/test-check-specs
 	@sh scripts/check-mixrule && sh scripts/test-check-mixrule
 	@sh scripts/check-public && sh scripts/test-check-public
