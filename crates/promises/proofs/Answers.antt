@@ -51,10 +51,10 @@ answers = record {
   fuse-values = fuse-values;
   positive-number = positive-number;
   fuse-number = fuse-number;
-  write = λ {f} {cells} {out} {r} P. record {
+  write = λ P. record {
     whole-written = whole-written P;
     written-whole = written-whole P;
-    refused-unwritten = refused-unwritten r;
+    refused-unwritten = refused-unwritten;
   };
   build = λ P. record { zero-accepts = zero-accepts P; built-values = built-values P };
   room-values = room-values;

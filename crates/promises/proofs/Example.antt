@@ -46,7 +46,8 @@ use Rattle.lines.specs.Shown.{newestTombstone}
 use Rattle.lines.specs.Listing.{tableText, sizeRefusal, listingRefusal, textBy, textOf}
 use Rattle.lines.proofs.Figures.{example-text}
 use Rattle.builder.proofs.TakenExists.{rules-taken}
-use Rattle.promises.specs.Example.{examplePlacing, exampleBody, ExampleRoom, exampleInput, exampleText, Example}
+use Rattle.promises.specs.Finished.{RoomOf}
+use Rattle.promises.specs.Example.{examplePlacing, exampleBody, exampleInput, exampleText, Example}
 use Rattle.promises.proofs.Taken.{taken-kept}
 use Rattle.promises.proofs.Finished.{output-body}
 
@@ -93,7 +94,7 @@ example-taken buffer room = rules-taken exampleTable example-rules key-bytes (om
 
 pub example-used : {s : PointBuilder} {buffer : List ℕ} → TakenList s buffer exampleTable → take (s .used) buffer ≡ exampleArena
 unfolding exampleArena
-example-used t = taken-kept t .arena
+example-used t = taken-kept t .facts .bytes
 
 -- ---- the attempt
 
@@ -178,7 +179,7 @@ pub example-body : bodyOf exampleArena (keysOf exampleArena) ≡ exampleBody
 unfolding bodyOf
 example-body = rw (example-keys, example-placed) bytes-are
 
-pub example-output : {out wide narrow out' wide' narrow' : List ℕ} {r : Finished} → ExampleRoom out wide narrow → FinishPost exampleArena out wide narrow r out' wide' narrow'
+pub example-output : {out wide narrow out' wide' narrow' : List ℕ} {r : Finished} → RoomOf 204 6 32 (length out) (length wide) (length narrow) → FinishPost exampleArena out wide narrow r out' wide' narrow'
     → (r ≡ Body 204) × (take 204 out' ≡ exampleBody)
 example-output {out} {wide} {narrow} {out'} {wide'} {narrow'} R P =
     let e = P .answer ∙ example-finished (length out) (length wide) (length narrow) (R .out-room) (R .wide-room) (R .narrow-room) in

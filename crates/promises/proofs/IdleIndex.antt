@@ -35,8 +35,9 @@ use Rattle.finish.specs.Finish.{walked, keysOf, lengthsRefusal, answered, bodyL
 use Rattle.finish.proofs.LengthLaws.{length-fits}
 use Rattle.finish.proofs.Answers.{finish-number, ten-exhausts, body-or-ten}
 use Rattle.finish.proofs.Accepted.{finish-get}
-use Rattle.promises.specs.Example.{exampleBody, ExampleRoom}
-use Rattle.promises.specs.IdleIndex.{putOf, oneTable, oneArena, OneRoom, ThreeKeys, IdleIndex}
+use Rattle.promises.specs.Finished.{RoomOf}
+use Rattle.promises.specs.Example.{exampleBody}
+use Rattle.promises.specs.IdleIndex.{putOf, oneTable, oneArena, ThreeKeys, IdleIndex}
 use Rattle.promises.proofs.Finished.{output-body}
 use Rattle.promises.proofs.Example.{example}
 
@@ -72,7 +73,7 @@ one-number out wide narrow e =
 never-ten : {out wide narrow out' wide' narrow' : List ℕ} → FinishPost oneArena out wide narrow (Refused 10) out' wide' narrow' → ⊥
 never-ten {out} {wide} {narrow} P = one-number (length out) (length wide) (length narrow) (ap finishedNumber (sym (P .answer)))
 
-module _ {out wide narrow out' wide' narrow' : List ℕ} {r : Finished} (R : OneRoom out wide narrow) (P : FinishPost oneArena out wide narrow r out' wide' narrow') where
+module _ {out wide narrow out' wide' narrow' : List ℕ} {r : Finished} (R : RoomOf 78 2 16 (length out) (length wide) (length narrow)) (P : FinishPost oneArena out wide narrow r out' wide' narrow') where
   one-fits : lengthsRefusal oneArena (length out) (length wide) (length narrow) ≡ 0
   one-fits =
       sym
@@ -110,7 +111,7 @@ body-keys : keysIn exampleBody ≡ 3
 unfolding exampleBody le spelled
 body-keys = refl
 
-module _ {out wide narrow out' wide' narrow' : List ℕ} {r : Finished} (R : ExampleRoom out wide narrow) (P : FinishPost exampleArena out wide narrow r out' wide' narrow') where
+module _ {out wide narrow out' wide' narrow' : List ℕ} {r : Finished} (R : RoomOf 204 6 32 (length out) (length wide) (length narrow)) (P : FinishPost exampleArena out wide narrow r out' wide' narrow') where
   all-finished : r ≡ Body 204
   all-finished = example .example-output R P .0
 

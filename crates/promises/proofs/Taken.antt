@@ -13,9 +13,7 @@ use Rattle.builder.proofs.OldestFirst as oldest
 use Rattle.promises.specs.Taken.{TakenKept, TakenLists, NeverOldestFirst}
 
 pub taken-kept : {s : PointBuilder} {buffer : List ℕ} {list : List Entry} → TakenList s buffer list → TakenKept s buffer list
-taken-kept t =
-    let f = taken-facts t in
-    record { rules = f .rules; keys = taken-keys t; few = f .few; arena = f .bytes; counted = f .counted; bytes = taken-bytes t }
+taken-kept t = record { facts = taken-facts t; keys = taken-keys t; bytes = taken-bytes t }
 
 -- THEOREM: taken lists
 pub taken-lists : TakenLists

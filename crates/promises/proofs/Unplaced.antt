@@ -29,8 +29,8 @@ use Rattle.finish.specs.declared.Finished.{Finished}
 use Rattle.finish.specs.Body.{arenaStart}
 use Rattle.finish.specs.Finish.{walked, keysOf, FinishPost, finishedNumber}
 use Rattle.builder.proofs.TakenExists.{rules-taken}
-use Rattle.promises.specs.Finished.{RoomFor}
-use Rattle.promises.specs.Unplaced.{oneKey, otherKey, pairTable, pairArena, PairRoom, Unplaced}
+use Rattle.promises.specs.Finished.{RoomOf, RoomFor}
+use Rattle.promises.specs.Unplaced.{oneKey, otherKey, pairTable, pairArena, Unplaced}
 use Rattle.promises.proofs.Refused.{finish-refusals}
 use Rattle.promises.proofs.Taken.{taken-kept}
 use Rattle.promises.proofs.Finished.{lengths-pass}
@@ -88,11 +88,11 @@ pair-length : arenaStart (length pairTable) + length pairArena ≡ 150
 unfolding arenaStart bucketsOf pairArena pairTable tableBytes entryBytes versionsBytes versionBytes bytesOf
 pair-length = refl
 
-ten-given : {s : PointBuilder} {buffer out wide narrow out' wide' narrow' : List ℕ} {r : Finished} → TakenList s buffer pairTable → PairRoom out wide narrow
+ten-given : {s : PointBuilder} {buffer out wide narrow out' wide' narrow' : List ℕ} {r : Finished} → TakenList s buffer pairTable → RoomOf 150 4 24 (length out) (length wide) (length narrow)
     → FinishPost (take (s .used) buffer) out wide narrow r out' wide' narrow' → finishedNumber r ≡ 10
 unfolding pairArena pairTable
 ten-given {s} {buffer} {out} {wide} {narrow} t R P =
-    let used : take (s .used) buffer ≡ pairArena = taken-kept t .arena in
+    let used : take (s .used) buffer ≡ pairArena = taken-kept t .facts .bytes in
     let full : s .used ≡ length pairArena = ap (λ (x : PointBuilder). x .used) (taken-state t) in
     let room : RoomFor s pairTable (length out) (length wide) (length narrow) = record { out-room = omega (arith, R .out-room, pair-length); wide-room = R .wide-room; narrow-room = R .narrow-room } in
     let pass = lengths-pass t (omega arith) room .1 in

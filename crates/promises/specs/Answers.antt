@@ -89,7 +89,7 @@ pub record WriteAnswers (f : SstFilter) (cells out : List ℕ) (r : Written) (af
   pub whole-written : acceptable f (length cells) ≡ true → 48 + length cells ≤ length out
       → (writeRefusal r ≡ 0) × (writtenValues r ≡ (48 + length cells) ∷ []) × (after ≡ splice out 0 (bytesFor f cells))
   pub written-whole : writeRefusal r ≡ 0 → (acceptable f (length cells) ≡ true) × (48 + length cells ≤ length out)
-  pub refused-unwritten : 0 < writeRefusal r → writtenValues r ≡ []
+  pub refused-unwritten : (w : Written) → 0 < writeRefusal w → writtenValues w ≡ []
 
 -- filter::Built: 0 and the bytes written (and `Filter`)
 pub record BuildAnswers (r : Built) (out' : List ℕ) : Type 0 where

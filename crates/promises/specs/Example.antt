@@ -22,6 +22,7 @@ use Rattle.finish.specs.Body.{placedOf, bodyOf}
 use Rattle.finish.specs.Finish.{keysOf, finishOf, FinishPost}
 use Rattle.lines.specs.Shown.{newestTombstone}
 use Rattle.lines.specs.Listing.{textOf}
+use Rattle.promises.specs.Finished.{RoomOf}
 
 -- the bucket's pilot, and what the slots hold: A, C, B
 abbrev pub examplePlacing : Placing
@@ -48,12 +49,6 @@ exampleBody =
     ∷ 12 ∷ 0 ∷ 0 ∷ 0 ∷ 0 ∷ 0 ∷ 0 ∷ 0 ∷ 1 ∷ 8 ∷ 0 ∷ 0 ∷ 0 ∷ 108 ∷ 0 ∷ 0 ∷ 0 ∷ 0 ∷ 0 ∷ 0 ∷ 0
     ∷ []
 
--- room for it: the body, 6 words of 64 bits, 32 of 32
-pub record ExampleRoom (out wide narrow : List ℕ) : Type 0 where
-  pub out-room : 204 ≤ length out
-  pub wide-room : 6 ≤ length wide
-  pub narrow-room : 32 ≤ length narrow
-
 -- the input of its listing: limit 8, data of 116 bytes, the body
 unfoldable pub exampleInput : List ℕ
 exampleInput = bytesOf 8 8 ++ (bytesOf 8 116 ++ exampleBody)
@@ -75,9 +70,9 @@ pub record Example : Type 0 where
   -- finish answers a body of 204 bytes, given room for it, 6 words of 64 bits and 32 of 32 bits; exactly that much is enough
   pub example-finished : (out wide narrow : ℕ) → 204 ≤ out → 6 ≤ wide → 32 ≤ narrow → finishOf exampleArena out wide narrow ≡ Body 204
   pub example-fits : finishOf exampleArena 204 6 32 ≡ Body 204
-  -- its bytes; and whatever meets finish's contract, with room, answers the body and leaves it in front of the output
+  -- its bytes; and whatever meets finish's contract, with that room, answers the body and leaves it in front of the output
   pub example-body : bodyOf exampleArena (keysOf exampleArena) ≡ exampleBody
-  pub example-output : {out wide narrow out' wide' narrow' : List ℕ} {r : Finished} → ExampleRoom out wide narrow → FinishPost exampleArena out wide narrow r out' wide' narrow'
+  pub example-output : {out wide narrow out' wide' narrow' : List ℕ} {r : Finished} → RoomOf 204 6 32 (length out) (length wide) (length narrow) → FinishPost exampleArena out wide narrow r out' wide' narrow'
       → (r ≡ Body 204) × (take 204 out' ≡ exampleBody)
   -- validation accepts it for data of 116 bytes, its table is the list, and get on it is the lookup in the list
   pub example-accepted : validateOf exampleBody 116 ≡ Accepted

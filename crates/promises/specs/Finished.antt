@@ -37,11 +37,15 @@ pub record ReadsLike (body : List ℕ) (list : List Entry) : Type 0 where
       → ValuePost body bytes key limit lent part place → TableInData (length bytes) list
       → (part ≡ partOf bytes (answerTo (lookup list key limit))) × (place .0 ≡ lent .0) × (place .1 ≡ lent .1 + startOf (answerTo (lookup list key limit)))
 
+-- room: an output of so many bytes, workspace of so many u64 and so many u32
+pub record RoomOf (bytes words halves out wide narrow : ℕ) : Type 0 where
+  pub out-room : bytes ≤ out
+  pub wide-room : words ≤ wide
+  pub narrow-room : halves ≤ narrow
+
 -- room for a list: an output as long as its body, workspace of 2n u64 and 8n + 8 u32
-pub record RoomFor (s : PointBuilder) (list : List Entry) (out wide narrow : ℕ) : Type 0 where
-  pub out-room : arenaStart (length list) + s .used ≤ out
-  pub wide-room : 2 * length list ≤ wide
-  pub narrow-room : 8 * length list + 8 ≤ narrow
+abbrev pub RoomFor : PointBuilder → List Entry → (out wide narrow : ℕ) → Type 0
+RoomFor s list out wide narrow = RoomOf (arenaStart (length list) + s .used) (2 * length list) (8 * length list + 8) out wide narrow
 
 -- DEMAND 3, of a list that was taken and finished
 pub record OnFinished : Type 0 where

@@ -1,5 +1,5 @@
 -- Idle indexes are shut out: a finish that answers 10 each time, a get that always says nothing, an index that places only its first key.
-use Prim.Native.Nat.{ℕ, _≤_, _<_}
+use Prim.Native.Nat.{ℕ, _<_}
 use mathlib.Core.Path.{_≡_}
 use mathlib.Core.List.{List, [], _∷_}
 use mathlib.Core.Logic.{_⊎_}
@@ -15,7 +15,7 @@ use Rattle.point.specs.Table.{OneBelow, Belongs}
 use Rattle.finish.specs.declared.Finished.{Finished}
 use Rattle.finish.specs.declared.Finished.the-variants.{Body, Refused}
 use Rattle.finish.specs.Finish.{FinishPost}
-use Rattle.promises.specs.Example.{ExampleRoom}
+use Rattle.promises.specs.Finished.{RoomOf}
 
 -- a put of 8 bytes
 abbrev pub putOf : (sequence offset : ℕ) → Record
@@ -28,13 +28,7 @@ oneTable = record { key = 65 ∷ []; versions = putOf 9 0 ∷ [] } ∷ []
 unfoldable pub oneArena : List ℕ
 oneArena = tableBytes oneTable
 
--- room for one key: a body of 78 bytes, 2 words of 64 bits, 16 of 32
-pub record OneRoom (out wide narrow : List ℕ) : Type 0 where
-  pub out-room : 78 ≤ length out
-  pub wide-room : 2 ≤ length wide
-  pub narrow-room : 16 ≤ length narrow
-
--- one key, finished with room
+-- one key, finished with room: 78 bytes, 2 words of 64 bits, 16 of 32
 pub record OneKey (r : Finished) (out' : List ℕ) : Type 0 where
   -- the answer is the body, and get finds the key in what was written
   pub one-finished : r ≡ Body 78
@@ -59,6 +53,6 @@ pub record ThreeKeys (r : Finished) (out' : List ℕ) : Type 0 where
 pub record IdleIndex : Type 0 where
   -- a finish that answers 10 each time is shut out: for one key no call that meets finish's contract answers 10
   pub never-ten : {out wide narrow out' wide' narrow' : List ℕ} → FinishPost oneArena out wide narrow (Refused 10) out' wide' narrow' → ⊥
-  pub one-key : {out wide narrow out' wide' narrow' : List ℕ} {r : Finished} → OneRoom out wide narrow → FinishPost oneArena out wide narrow r out' wide' narrow' → OneKey r out'
-  pub three-keys : {out wide narrow out' wide' narrow' : List ℕ} {r : Finished} → ExampleRoom out wide narrow → FinishPost exampleArena out wide narrow r out' wide' narrow'
+  pub one-key : {out wide narrow out' wide' narrow' : List ℕ} {r : Finished} → RoomOf 78 2 16 (length out) (length wide) (length narrow) → FinishPost oneArena out wide narrow r out' wide' narrow' → OneKey r out'
+  pub three-keys : {out wide narrow out' wide' narrow' : List ℕ} {r : Finished} → RoomOf 204 6 32 (length out) (length wide) (length narrow) → FinishPost exampleArena out wide narrow r out' wide' narrow'
       → ThreeKeys r out'

@@ -16,15 +16,13 @@ use Rattle.records.specs.Tables.{TableRules}
 use Rattle.builder.specs.declared.PointBuilder.{PointBuilder}
 use Rattle.builder.specs.declared.Added.{Added}
 use Rattle.builder.specs.Add.{Call, addedNumber, AddPost}
-use Rattle.builder.specs.Taken.{ending, KeyBytes, TakenList, TakenInto}
+use Rattle.builder.specs.Taken.{ending, KeyBytes, TakenList, TakenInto, TakenFacts}
 
--- what a taken list keeps: the rules; its keys are bytes and at most 65,536; the used bytes are its arena, bytes too; the state counts its keys
+-- what a taken list keeps: the rules of keys and versions, and at most 65,536 keys; the state fits and counts them; the used bytes are its arena
+-- (`TakenFacts`). Its keys are bytes, and so is the arena
 pub record TakenKept (s : PointBuilder) (buffer : List ℕ) (list : List Entry) : Type 0 where
-  pub rules : TableRules Untested list
+  pub facts : TakenFacts s buffer list
   pub keys : Each KeyBytes list
-  pub few : length list ≤ mostKeys
-  pub arena : take (s .used) buffer ≡ tableBytes list
-  pub counted : s .keys ≡ length list
   pub bytes : AllBytes (take (s .used) buffer)
 
 pub record TakenLists : Type 0 where

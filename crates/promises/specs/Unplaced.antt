@@ -12,6 +12,7 @@ use Rattle.construct.specs.Keys.{attemptHashes}
 use Rattle.construct.specs.Promised.{AttemptFails}
 use Rattle.finish.specs.declared.Finished.{Finished}
 use Rattle.finish.specs.Finish.{keysOf, FinishPost, finishedNumber}
+use Rattle.promises.specs.Finished.{RoomOf}
 
 -- 41 41 41 41 41 41 41 41 42 42 42 42 42 42 42 42 and 41 41 41 41 51 41 41 41 42 42 42 42 42 42 42 c2, in hex
 abbrev pub oneKey : List ℕ
@@ -30,17 +31,12 @@ pairTable =
 unfoldable pub pairArena : List ℕ
 pairArena = tableBytes pairTable
 
--- room for its body: 150 bytes, 4 words of 64 bits, 24 of 32
-pub record PairRoom (out wide narrow : List ℕ) : Type 0 where
-  pub out-room : 150 ≤ length out
-  pub wide-room : 4 ≤ length wide
-  pub narrow-room : 24 ≤ length narrow
-
 pub record Unplaced : Type 0 where
   -- the builder takes it, into any buffer of 90 bytes or more
   pub pair-taken : (buffer : List ℕ) → 90 ≤ length buffer → TakenInto buffer pairTable
   -- each of the eight attempts fails
   pub pair-fails : (i : ℕ) → i < 8 → AttemptFails (attemptHashes pairArena (keysOf pairArena) i)
-  -- where the list is taken, whatever meets finish's contract on its used bytes, with room, answers 10
-  pub ten-given : {s : PointBuilder} {buffer out wide narrow out' wide' narrow' : List ℕ} {r : Finished} → TakenList s buffer pairTable → PairRoom out wide narrow
+  -- where the list is taken, whatever meets finish's contract on its used bytes, with room for 150 bytes, 4 words of 64 bits and 24 of 32,
+  -- answers 10
+  pub ten-given : {s : PointBuilder} {buffer out wide narrow out' wide' narrow' : List ℕ} {r : Finished} → TakenList s buffer pairTable → RoomOf 150 4 24 (length out) (length wide) (length narrow)
       → FinishPost (take (s .used) buffer) out wide narrow r out' wide' narrow' → finishedNumber r ≡ 10
