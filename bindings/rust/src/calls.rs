@@ -1,9 +1,14 @@
 //! The calls with memory for their answers, and a refusal as an error.
 use crate::{Refusal, sys};
 
+/// The refusal of a number that a call gave.
+pub fn refused(number: u64) -> Refusal {
+    Refusal::from_number(number).expect("proved: no call refuses with a number that is not in the table")
+}
+
 /// What a number comes to: 0 for the answer, else the refusal.
 fn taken<T>(number: u64, answer: T) -> Result<T, Refusal> {
-    if number == 0 { Ok(answer) } else { Err(Refusal(number)) }
+    if number == 0 { Ok(answer) } else { Err(refused(number)) }
 }
 
 /// A record as the builder's call takes it, without the memory.
@@ -68,7 +73,7 @@ pub fn filter_ask(bytes: &[u8], hash: u64) -> Result<bool, Refusal> {
     match sys::filter_ask(bytes, hash) {
         0 => Ok(false),
         1 => Ok(true),
-        number => Err(Refusal(number)),
+        number => Err(refused(number)),
     }
 }
 
@@ -77,7 +82,7 @@ pub fn filter_ask_all(bytes: &[u8], hashes: &[u64], answers: &mut [u8]) -> Resul
     taken(sys::filter_ask_all(bytes, hashes, answers), ())
 }
 
-/// Lists an input: the text's length.
+/// Lists an input: the text's length, also where the text is a refusal.
 pub fn listing(input: &[u8], out: &mut [u8]) -> Result<u64, Refusal> {
     let mut answer = [0];
     let number = sys::listing(input, out, &mut answer);

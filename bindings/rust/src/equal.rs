@@ -1,5 +1,6 @@
-//! The keys that no attempt of finish could place together: those with equal hashes, for a list that it refuses with 10.
-use crate::{hash, mix};
+//! The keys that no attempt of finish could place together: those with equal hashes, for a list that it refuses for
+//! [`Refusal::ATTEMPTS`](crate::Refusal::ATTEMPTS). Plain Rust, and not proved.
+use crate::sys::{hash, mix};
 
 /// The seeds that finish tries, one an attempt.
 const ATTEMPTS: usize = 8;
@@ -9,7 +10,8 @@ const STEP: u64 = 0x9e37_79b9_7f4a_7c15;
 /// Two keys with equal hashes under a seed.
 pub type Pair<'k> = (&'k [u8], &'k [u8]);
 
-/// The pairs of keys with equal hashes, attempt by attempt. An attempt that has one fails; finish answers 10 where all eight fail.
+/// The pairs of keys with equal hashes, attempt by attempt. An attempt that has one fails; where all eight fail,
+/// finish refuses the list ([`Refusal::ATTEMPTS`](crate::Refusal::ATTEMPTS)).
 ///
 /// ```
 /// use wobarelind::{Kind, PointBuilder, Refusal};
@@ -18,7 +20,7 @@ pub type Pair<'k> = (&'k [u8], &'k [u8]);
 /// for key in ["T0410-2024110300", "T0413-2024110308", "T0415-2024110308", "T0416-2024110300"] {
 ///     builder.add(Kind::Put, key.as_bytes(), 0, 1, true)?;
 /// }
-/// assert_eq!(builder.finish_legacy(), Err(Refusal(10)));
+/// assert_eq!(builder.finish_legacy(), Err(Refusal::ATTEMPTS));
 /// let equal = builder.equal_hashes();
 /// assert_eq!(equal.fewest(), [(&b"T0415-2024110308"[..], &b"T0416-2024110300"[..])]);
 /// # Ok::<(), Refusal>(())
@@ -26,13 +28,13 @@ pub type Pair<'k> = (&'k [u8], &'k [u8]);
 #[derive(Clone, Debug, PartialEq, Eq)]
 pub struct EqualHashes<'k> {
     /// The pairs of each attempt. Of more than two keys with one hash each but the first is the second of one pair.
-    /// No pair, after 10: that attempt found no pilot. It is not to be expected; keep the list and report it.
+    /// No pair, after a refusal: that attempt found no pilot. It is not to be expected; keep the list and report it.
     pub attempts: [Vec<Pair<'k>>; ATTEMPTS],
 }
 
 impl<'k> EqualHashes<'k> {
-    /// The pairs of the attempt that has the fewest. With the second key of each, and all its versions, in another index, that
-    /// attempt has no equal hashes left, and finish can be expected to place the rest.
+    /// The pairs of the attempt that has the fewest. With the second key of each, and all its versions, in another
+    /// index, that attempt has no equal hashes left, and finish can be expected to place the rest.
     pub fn fewest(&self) -> &[Pair<'k>] {
         self.attempts.iter().min_by_key(|pairs| pairs.len()).expect("there are eight")
     }

@@ -4,7 +4,9 @@ use crate::{Refusal, calls};
 /// The bytes in front of the cells.
 const HEADER: usize = 48;
 
-/// A filter, as its bytes. The hashes are the host's choice: kiban takes XXH3 of the key.
+/// A filter of hashes, as its bytes. The host hashes the keys. The store takes XXH3 of the key, 64 bits (its
+/// src/xxh3.rs, which is not carried over), and not [`sys::hash`](crate::sys::hash), the index's own: asked with
+/// another hash than it was built from, a filter calls keys absent that are there.
 #[derive(Clone, Debug, PartialEq, Eq)]
 pub struct SstFilter {
     bytes: Vec<u8>,
@@ -32,7 +34,8 @@ fn accepted<T>(answer: Result<T, Refusal>) -> T {
 }
 
 impl SstFilter {
-    /// Builds the filter of hashes, which are left sorted unless it refuses.
+    /// Builds the filter of hashes, which are left sorted unless it refuses. For a filter that the store is to ask they
+    /// are XXH3 of the keys, not [`sys::hash`](crate::sys::hash).
     pub fn build(hashes: &mut [u64]) -> Result<Self, Refusal> {
         let n = hashes.len();
         let cells = cells_at_most(n);
@@ -43,7 +46,8 @@ impl SstFilter {
         Ok(Self { bytes })
     }
 
-    /// Takes a filter's bytes, as [`Self::encode`] gave them.
+    /// Takes a filter's bytes, as [`Self::encode`] gave them: a filter block of the store without its last five bytes,
+    /// a trailer that is not an index's.
     pub fn decode(bytes: &[u8]) -> Result<Self, Refusal> {
         calls::filter_read(bytes)?;
         Ok(Self { bytes: bytes.to_vec() })
@@ -60,7 +64,8 @@ impl SstFilter {
         (form == 1).then_some(Sizes { keys, seed, segment, count, cells })
     }
 
-    /// Whether a hash may be among those that the filter was built from: false means that it is not.
+    /// Whether a hash may be among those that the filter was built from: false means that it is not. Of a filter of the
+    /// store the hash is XXH3 of the key, not [`sys::hash`](crate::sys::hash).
     pub fn may_contain_hash(&self, hash: u64) -> bool {
         accepted(calls::filter_ask(&self.bytes, hash))
     }
@@ -77,7 +82,7 @@ impl SstFilter {
 mod tests {
     use super::*;
 
-    /// Workspace is tested before output, so a call without output tells whether the workspace suffices, and does no more.
+    /// Workspace is tested before output: a call without output tells whether the workspace suffices, and does no more.
     #[test]
     fn the_room_suffices_for_every_count_of_hashes() {
         let mut hashes = vec![0; 65_536];
@@ -87,7 +92,7 @@ mod tests {
             let cells = cells_at_most(n);
             let refused =
                 calls::filter_build(&mut hashes[..n], &mut wide[..cells + n], &mut narrow[..2 * cells + n], &mut []);
-            assert_eq!(refused, Err(Refusal(6)), "{n} hashes");
+            assert_eq!(refused, Err(Refusal::BUFFER), "{n} hashes");
         }
     }
 }

@@ -9,6 +9,7 @@ pub enum Kind {
 }
 
 impl Kind {
+    /// The byte that stands for the kind in a body.
     pub fn to_u8(self) -> u8 {
         match self {
             Kind::Put => 1,
@@ -16,6 +17,7 @@ impl Kind {
         }
     }
 
+    /// The kind that a byte stands for; 1 and 2 alone do.
     pub fn from_u8(byte: u8) -> Option<Kind> {
         match byte {
             1 => Some(Kind::Put),
@@ -56,12 +58,12 @@ impl PointBuilder {
         self.state[1] as usize
     }
 
-    /// Adds a record with a value of `length` bytes: the place to hand to [`Self::set_value_offset`]; the offset is 0 till then.
-    /// `new_key` is false for a further version of the last key. A refused record leaves the builder as it was.
+    /// Adds a record with a value of `length` bytes: the place to hand to [`Self::set_value_offset`]; the offset is 0
+    /// till then. `new_key` is false for a further version of the last key. A refusal leaves the builder as it was.
     pub fn add(&mut self, kind: Kind, key: &[u8], length: u64, seq: u64, new_key: bool) -> Result<usize, Refusal> {
         let record = calls::Added { kind: kind.to_u8(), key, length, sequence: seq, new_key };
         let mut added = calls::add(&mut self.buffer, &mut self.state, &record);
-        if added == Err(Refusal(6)) {
+        if added == Err(Refusal::BUFFER) {
             self.make_room(LEAST_ENTRY + key.len());
             added = calls::add(&mut self.buffer, &mut self.state, &record);
         }
@@ -73,8 +75,8 @@ impl PointBuilder {
         calls::set_offset(&mut self.buffer, &self.state, patch as u64, value_offset)
     }
 
-    /// The body of the records added: an index without its five trailer bytes. At 10, [`Self::equal_hashes`] names the keys that
-    /// stand in the way.
+    /// The body of the records added: an index file without its trailer, which [`with_trailer`](crate::with_trailer)
+    /// adds. At [`Refusal::ATTEMPTS`], [`Self::equal_hashes`] names the keys that stand in the way.
     pub fn finish_legacy(&self) -> Result<Vec<u8>, Refusal> {
         finish_keys(self.arena(), self.keys())
     }
@@ -97,6 +99,7 @@ impl PointBuilder {
         keys
     }
 
+    /// How many bytes of the buffer are used.
     fn used(&self) -> usize {
         self.state[0] as usize
     }
@@ -108,7 +111,8 @@ impl PointBuilder {
     }
 }
 
-/// The body of an arena from elsewhere. A [`PointBuilder`] finishes its own. At 10, [`equal_hashes`] names the keys of a list.
+/// The body of an arena from elsewhere. A [`PointBuilder`] finishes its own. At [`Refusal::ATTEMPTS`], [`equal_hashes`]
+/// names the keys of a list.
 pub fn finish(arena: &[u8]) -> Result<Vec<u8>, Refusal> {
     finish_keys(arena, (arena.len() / LEAST_ENTRY).min(MOST_KEYS))
 }
@@ -122,47 +126,59 @@ fn finish_keys(arena: &[u8], n: usize) -> Result<Vec<u8>, Refusal> {
     Ok(out)
 }
 
-/// Whether a body is an index for data of a length; for data that isn't in memory. [`LegacyIndex::decode`] does this first.
+/// Whether a body is an index for data of a length, which need not be in memory. [`LegacyIndex::decode`] does it first.
 pub fn validate(body: &[u8], data_length: u64) -> Result<(), Refusal> {
     calls::validate(body, data_length)
 }
 
-/// A key's record, which may be a tombstone: then the key was withdrawn and has no value. Match on the kind before the value is read.
+/// What a lookup comes to. Only a put has a value: a withdrawn figure is never handed out.
+#[must_use]
 #[derive(Clone, Copy, Debug, PartialEq, Eq)]
-pub struct Found<'d> {
-    pub kind: Kind,
-    pub seq: u64,
-    /// Where a put's value starts in the data; of a tombstone it can be where an older, withdrawn value starts.
-    pub offset: u64,
-    /// A put's value, that part of the data.
-    pub value: &'d [u8],
+pub enum Answer<'d> {
+    /// A put: its value, that part of the data, which starts at `offset`.
+    Put { seq: u64, offset: u64, value: &'d [u8] },
+    /// A tombstone: the key was withdrawn at `seq` and has no value.
+    Withdrawn { seq: u64 },
+    /// No record within the limit.
+    Nothing,
 }
 
-/// The key's record of greatest sequence within the limit, from a body that need not be validated: damage that it meets is 14. What is
-/// found may be a tombstone: [`Found`].
-pub fn get<'d>(body: &[u8], data: &'d [u8], key: &[u8], limit: Option<u64>) -> Result<Option<Found<'d>>, Refusal> {
+impl<'d> Answer<'d> {
+    /// A put's value, and no other.
+    pub fn value(self) -> Option<&'d [u8]> {
+        match self {
+            Answer::Put { value, .. } => Some(value),
+            Answer::Withdrawn { .. } | Answer::Nothing => None,
+        }
+    }
+}
+
+/// The key's record of greatest sequence within the limit, from a body that need not be validated: damage that it meets
+/// is [`Refusal::DAMAGE`]. A tombstone gives no value here either, even if damage gave it a length.
+pub fn get<'d>(body: &[u8], data: &'d [u8], key: &[u8], limit: Option<u64>) -> Result<Answer<'d>, Refusal> {
     let Some([kind, seq, offset, length]) = calls::get(body, data, key, limit)? else {
-        return Ok(None);
+        return Ok(Answer::Nothing);
     };
-    let value = &data[offset as usize..(offset + length) as usize];
-    let kind = if kind == 1 { Kind::Put } else { Kind::Tombstone };
-    Ok(Some(Found { kind, seq, offset, value }))
+    Ok(match Kind::from_u8(kind as u8).expect("proved: a record's kind is put or tombstone") {
+        Kind::Put => Answer::Put { seq, offset, value: &data[offset as usize..(offset + length) as usize] },
+        Kind::Tombstone => Answer::Withdrawn { seq },
+    })
 }
 
 /// A validated body beside its data.
 ///
-/// What is found borrows from the data. It may outlive the index and the body, and cannot outlive the data:
+/// An answer borrows from the data. It may outlive the index and the body, and cannot outlive the data:
 ///
 /// ```compile_fail,E0597
 /// # let mut builder = wobarelind::PointBuilder::new();
 /// # builder.add(wobarelind::Kind::Put, b"A", 8, 9, true).unwrap();
 /// # let body = builder.finish_legacy().unwrap();
-/// let found;
+/// let answer;
 /// {
 ///     let data = vec![0; 8];
-///     found = wobarelind::LegacyIndex::decode(&body, &data).unwrap().get(b"A", None).unwrap();
+///     answer = wobarelind::LegacyIndex::decode(&body, &data).unwrap().get(b"A", None);
 /// }
-/// assert_eq!(found.seq, 9);
+/// assert_eq!(answer.value(), Some(&[0; 8][..]));
 /// ```
 #[derive(Clone, Copy, Debug)]
 pub struct LegacyIndex<'b, 'd> {
@@ -171,15 +187,15 @@ pub struct LegacyIndex<'b, 'd> {
 }
 
 impl<'b, 'd> LegacyIndex<'b, 'd> {
-    /// Validates a body for its data. The five trailer bytes of an index file are not part of the body.
+    /// Validates a body for its data. The trailer of an index file is no part of the body: [`body_of`](crate::body_of)
+    /// tests it and cuts it off.
     pub fn decode(body: &'b [u8], data: &'d [u8]) -> Result<Self, Refusal> {
         validate(body, data.len() as u64)?;
         Ok(Self { body, data })
     }
 
-    /// The key's record of greatest sequence within the limit, or nothing where the list has none. What is found may be a tombstone:
-    /// [`Found`].
-    pub fn get(&self, key: &[u8], limit: Option<u64>) -> Option<Found<'d>> {
+    /// The key's record of greatest sequence within the limit.
+    pub fn get(&self, key: &[u8], limit: Option<u64>) -> Answer<'d> {
         get(self.body, self.data, key, limit).expect("proved: a lookup never refuses a validated body")
     }
 }

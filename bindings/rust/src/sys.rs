@@ -1,5 +1,8 @@
-//! The functions of `libkiban_c.a` on slices: each returns the number that `bindings/c/kiban.h` says, and writes into `answer`.
-//! Only this module has `unsafe`: every pointer it passes is a slice's own, with that slice's length.
+//! The functions of `libkiban_c.a` on slices: each returns the number that `bindings/c/kiban.h` says, and writes into
+//! `answer`. Only this module has `unsafe`: every pointer it passes is a slice's own, with that slice's length.
+//!
+//! Calls share nothing: none keeps anything for the next, or touches memory that was not lent to it. Any number of
+//! threads may call at once; that what a call may write is lent to no other is the borrow checker's to see to.
 mod c {
     unsafe extern "C" {
         pub safe fn kiban_mix(h: u64) -> u64;
@@ -85,12 +88,13 @@ mod c {
     }
 }
 
-/// `h`, mixed.
+/// `h`, mixed: a step of the index's own hash.
 pub fn mix(h: u64) -> u64 {
     c::kiban_mix(h)
 }
 
-/// The hash of a key.
+/// The index's own hash of a key. The store's filters do not take it: they take XXH3 of the key, by the host's own code
+/// (the store's src/xxh3.rs, not carried over).
 pub fn hash(key: &[u8], seed: u64) -> u64 {
     unsafe { c::kiban_hash(key.as_ptr(), key.len(), seed) }
 }
@@ -158,8 +162,8 @@ pub fn validate(body: &[u8], data_length: u64) -> u64 {
     unsafe { c::kiban_validate(body.as_ptr(), body.len(), data_length) }
 }
 
-/// The key's record within the limit: 0 found, 1 nothing, 14. `answer`: kind, sequence, offset, length; of kind 2, a tombstone, there
-/// is no value.
+/// The key's record within the limit: 0 found, 1 nothing, 14. `answer`: kind, sequence, offset, length; of kind 2, a
+/// tombstone, there is no value. For a figure call [`crate::get`], which never hands out a withdrawn one.
 pub fn get(body: &[u8], data: &[u8], key: &[u8], limit: Option<u64>, answer: &mut [u64]) -> u64 {
     let (limited, limit) = (limit.is_some() as u8, limit.unwrap_or(0));
     unsafe {
@@ -178,7 +182,7 @@ pub fn get(body: &[u8], data: &[u8], key: &[u8], limit: Option<u64>, answer: &mu
     }
 }
 
-/// Builds a filter. `answer`: the bytes written.
+/// Builds a filter of the host's hashes. `answer`: the bytes written.
 pub fn filter_build(
     hashes: &mut [u64],
     wide: &mut [u64],

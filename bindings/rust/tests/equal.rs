@@ -1,5 +1,6 @@
 //! The keys that finish cannot place together, named.
-use wobarelind::{EqualHashes, Kind, PointBuilder, Refusal, equal_hashes, mix};
+use wobarelind::sys::mix;
+use wobarelind::{EqualHashes, Kind, PointBuilder, Refusal, equal_hashes};
 
 /// Four keys of tram, date and hour of which two have equal hashes under each of the eight seeds.
 const UNPLACED: [&str; 4] = ["T0410-2024110300", "T0413-2024110308", "T0415-2024110308", "T0416-2024110300"];
@@ -24,7 +25,7 @@ fn numbered(equal: &EqualHashes<'_>, keys: &[&str]) -> [Vec<(usize, usize)>; 8] 
 #[test]
 fn four_keys_that_no_seed_places() {
     let builder = taken(UNPLACED);
-    assert_eq!(builder.finish_legacy(), Err(Refusal(10)));
+    assert_eq!(builder.finish_legacy(), Err(Refusal::ATTEMPTS));
     let pairs = [(2, 3), (0, 1), (0, 1), (2, 3), (0, 2), (0, 2), (0, 1), (0, 2)];
     assert_eq!(numbered(&builder.equal_hashes(), &UNPLACED), pairs.map(|pair| vec![pair]));
 }
@@ -44,14 +45,14 @@ fn four_keys_that_the_eighth_seed_alone_places() {
 #[test]
 fn a_pair_under_every_seed() {
     let keys = [&b"AAAAAAAABBBBBBBB"[..], b"AAAAQAAABBBBBBB\xc2"];
-    assert_eq!(taken(keys).finish_legacy(), Err(Refusal(10)));
+    assert_eq!(taken(keys).finish_legacy(), Err(Refusal::ATTEMPTS));
     assert!(equal_hashes(&keys).attempts.iter().all(|pairs| *pairs == [(keys[0], keys[1])]));
 }
 
 #[test]
 fn of_three_keys_with_one_hash_all_but_the_first_are_second_keys() {
     let keys = [&[b'A'; 24][..], b"AAAAAAAAAAAAQAAAAAAAAAA\xc1", b"AAAAQAAAAAAAAAA\xc1AAAAAAAA"];
-    assert_eq!(taken(keys).finish_legacy(), Err(Refusal(10)));
+    assert_eq!(taken(keys).finish_legacy(), Err(Refusal::ATTEMPTS));
     assert!(equal_hashes(&keys).attempts.iter().all(|pairs| *pairs == [(keys[0], keys[1]), (keys[1], keys[2])]));
 }
 
@@ -84,7 +85,7 @@ fn month() -> Vec<String> {
 fn a_refused_month_is_placed_once_the_second_keys_are_moved() {
     let month = month();
     let whole = taken(&month);
-    assert_eq!(whole.finish_legacy(), Err(Refusal(10)));
+    assert_eq!(whole.finish_legacy(), Err(Refusal::ATTEMPTS));
     let mut moved: Vec<&[u8]> = whole.equal_hashes().fewest().iter().map(|pair| pair.1).collect();
     moved.sort_unstable();
     let rest = month.iter().filter(|key| moved.binary_search(&key.as_bytes()).is_err());

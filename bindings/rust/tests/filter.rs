@@ -1,7 +1,8 @@
 //! Filters of hashes.
-use wobarelind::{SstFilter, mix};
+use wobarelind::SstFilter;
+use wobarelind::sys::mix;
 
-/// `n` hashes, no two equal.
+/// `n` hashes, no two equal: drawn numbers in place of the store's XXH3 of keys.
 fn hashes(n: u64) -> Vec<u64> {
     (1..=n).map(mix).collect()
 }

@@ -34,3 +34,10 @@ pub fn body() -> Vec<u8> {
     }
     builder.finish_legacy().expect("the example is placed")
 }
+
+/// The example's body with other bytes at a place.
+pub fn patched(at: usize, bytes: &[u8]) -> Vec<u8> {
+    let mut body = body();
+    body[at..at + bytes.len()].copy_from_slice(bytes);
+    body
+}
