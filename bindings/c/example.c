@@ -1,446 +1,148 @@
 /*
- * The example of the user's document, through kiban.h: built, finished, validated, looked up, filtered and listed. Then
- * washes, one corrected and one withdrawn, and lists of keys that finish cannot place, through kiban_keys.h.
- * It prints the listing, the figures and the keys; where something differs from what is expected it says so and ends
- * with 1.
+ * example INDEX DATA KEY [LIMIT]: a key's value within the limit and the listing at that limit, from an index file of
+ * the store and its data. Without LIMIT it is 2^64 - 1. What fails is said on standard error, with exit code 1.
+ *
+ *     make library
+ *     cc -std=c99 -o example bindings/c/example.c target/staticlib/libkiban_c.a
+ *     ./example sample/wash.idx sample/wash.dat "2026-03-02 05:40 tram 2017"
  */
-#include "kiban_keys.h"
+#include "kiban.h"
+#include "kiban_file.h"
 
+#include <errno.h>
 #include <stdio.h>
+#include <stdlib.h>
 #include <string.h>
 
-enum { KEYS = 3, RECORDS = 5, ARENA = 132, BODY = 204, DATA = 116, CELLS = 3 + 256, MOST = 65536 };
-/* The most keys of a list here, and room for the arena and the body of each. */
-enum { FEW = 4, ROOM = 512 };
-
-struct record {
-    const char *key;
-    uint8_t kind, new_key;
-    uint64_t sequence, offset, length;
+/* A file's bytes, or a part of them. */
+struct bytes {
+    uint8_t *at;
+    size_t length;
 };
 
-/* Keys rise; each key's versions, newest first. */
-static const struct record records[RECORDS] = {
-    {"A", KIBAN_PUT, 1, 9, 100, 8},
-    {"A", KIBAN_PUT, 0, 4, 40, 8},
-    {"B", KIBAN_TOMBSTONE, 1, 7, 108, 0},
-    {"B", KIBAN_PUT, 0, 3, 60, 8},
-    {"C", KIBAN_PUT, 1, 12, 108, 8},
-};
-
-static int differing;
-
-static void expect(const char *what, uint64_t have, uint64_t want)
+/* Says what failed, and why. Returns 0, which stands for failure in all of this file but main. */
+static int failed(const char *what, const char *why)
 {
-    if (have != want) {
-        fprintf(stderr, "%s: %llu, expected %llu\n", what, (unsigned long long)have, (unsigned long long)want);
-        differing = 1;
+    fprintf(stderr, "example: %s: %s\n", what, why);
+    return 0;
+}
+
+/* Says a refusal and its cause. */
+static int refused(const char *path, uint64_t number)
+{
+    fprintf(stderr, "example: %s: refused %llu: %s\n", path, (unsigned long long)number, kiban_cause(number));
+    return 0;
+}
+
+/* Reads a stream to its end; file->at is to be freed, also where this fails. */
+static int read_all(FILE *stream, struct bytes *file)
+{
+    const size_t step = 65536;
+    while (!feof(stream) && !ferror(stream)) {
+        uint8_t *longer = (uint8_t *)realloc(file->at, file->length + step);
+        if (longer == NULL)
+            return 0;
+        file->at = longer;
+        file->length += fread(longer + file->length, 1, step, stream);
     }
+    return !ferror(stream);
 }
 
-static const uint8_t *bytes(const char *text)
+/* Reads a file. */
+static int read_file(const char *path, struct bytes *file)
 {
-    return (const uint8_t *)text;
+    FILE *stream = fopen(path, "rb");
+    if (stream == NULL)
+        return failed(path, strerror(errno));
+    const int whole = read_all(stream, file) || failed(path, strerror(errno));
+    fclose(stream);
+    return whole;
 }
 
-/* The seed of the first attempt, and three numbers sorted. */
-static void numbers(void)
+/* Reads a limit: decimal digits, up to 2^64 - 1. */
+static int read_limit(const char *text, uint64_t *limit)
 {
-    uint64_t three[3] = {9, 4, 7};
-    expect("mix", kiban_mix(UINT64_C(0x9e3779b97f4a7c15)), UINT64_C(0xe220a8397b1dcdaf));
-    expect("sort", kiban_sort(three, 3), 0);
-    expect("sorted", three[0] == 4 && three[1] == 7 && three[2] == 9, 1);
+    errno = 0;
+    *limit = strtoull(text, NULL, 10);
+    if (errno != 0 || *text == '\0' || text[strspn(text, "0123456789")] != '\0')
+        return failed(text, "LIMIT is not a decimal number up to 18446744073709551615");
+    return 1;
 }
 
-/* One more record in an arena that has so much room. */
-static uint64_t add(uint8_t *arena, size_t room, uint64_t *state, const struct record *r, uint64_t *place)
+/* Prints a key's value within the limit, or why there is none. */
+static int print_value(const char *path, struct bytes body, struct bytes data, const char *key, uint64_t limit)
 {
-    return kiban_add(arena, room, state, KIBAN_STATE_WORDS, bytes(r->key), strlen(r->key), r->kind, r->length,
-                     r->sequence, r->new_key, place, 1);
-}
-
-/* Adds records with their offsets; the place of the last one's. */
-static uint64_t add_all(uint8_t *arena, size_t room, uint64_t *state, const struct record *from, size_t count)
-{
-    uint64_t place = 0;
-    size_t i;
-    for (i = 0; i < count; i++) {
-        expect("add", add(arena, room, state, &from[i], &place), 0);
-        expect("set offset", kiban_set_offset(arena, room, state, KIBAN_STATE_WORDS, place, from[i].offset), 0);
-    }
-    return place;
-}
-
-/* Adds the document's records; a newer version after an older is refused, and what has no room. */
-static void build(uint8_t *arena, uint64_t *state)
-{
-    const struct record newer = {"C", KIBAN_PUT, 0, 13, 0, 8}, further = {"D", KIBAN_PUT, 1, 1, 0, 8};
-    uint64_t place = add_all(arena, ARENA, state, records, RECORDS);
-    expect("a newer version after an older", add(arena, ARENA, state, &newer, &place), KIBAN_REFUSED_ORDER);
-    expect("a key more than there is room for", add(arena, ARENA, state, &further, &place), KIBAN_REFUSED_BUFFER);
-    expect("used", state[0], ARENA);
-    expect("keys", state[1], KEYS);
-    expect("the last place", place, ARENA - 8);
-}
-
-/* Finishes an arena of up to FEW keys: finish's number, and the body's length. */
-static uint64_t finish_few(const uint8_t *arena, const uint64_t *state, uint8_t *body, uint64_t *length)
-{
-    uint64_t wide[2 * FEW];
-    uint32_t narrow[8 * FEW + 8];
-    return kiban_finish(arena, state[0], body, kiban_body_bytes(state[1], state[0]), wide, kiban_finish_wide(state[1]),
-                        narrow, kiban_finish_narrow(state[1]), length, 1);
-}
-
-/* Finishes the document's arena, and validates the body for its data and for a byte less. */
-static void finish(const uint8_t *arena, const uint64_t *state, uint8_t *body)
-{
-    uint64_t length = 0;
-    expect("wide", kiban_finish_wide(KEYS), 2 * KEYS);
-    expect("narrow", kiban_finish_narrow(KEYS), 8 * KEYS + 8);
-    expect("the body's bytes", kiban_body_bytes(KEYS, ARENA), BODY);
-    expect("finish", finish_few(arena, state, body, &length), 0);
-    expect("the body's length", length, BODY);
-    expect("validate", kiban_validate(body, BODY, DATA), 0);
-    expect("validate for less data", kiban_validate(body, BODY, DATA - 1), KIBAN_REFUSED_VERSION);
-}
-
-/* Looks a key up; expected is the record, or none. */
-static void look_up(const uint8_t *body, const uint8_t *data, const char *key, uint8_t limited, uint64_t limit,
-                    const struct record *expected)
-{
-    uint64_t answer[KIBAN_RECORD_WORDS] = {0, 0, 0, 0};
-    uint64_t got = kiban_get(body, BODY, data, DATA, bytes(key), strlen(key), limited, limit, answer, 4);
-    expect("get", got, expected ? KIBAN_FOUND : KIBAN_NOTHING);
-    expect("kind", answer[0], expected ? expected->kind : 0);
-    expect("sequence", answer[1], expected ? expected->sequence : 0);
-    expect("offset", answer[2], expected ? expected->offset : 0);
-    expect("length", answer[3], expected ? expected->length : 0);
-}
-
-/* Builds a filter of the keys' hashes: its length. */
-static uint64_t build_filter(uint64_t *hashes, uint8_t *out)
-{
-    uint64_t wide[CELLS + KEYS], length = 0;
-    uint32_t narrow[2 * CELLS + KEYS];
-    size_t i;
-    for (i = 0; i < KEYS; i++)
-        hashes[i] = kiban_hash(bytes("ABC") + i, 1, 0);
-    expect("wide", kiban_filter_wide(KEYS), sizeof wide / sizeof *wide);
-    expect("narrow", kiban_filter_narrow(KEYS), sizeof narrow / sizeof *narrow);
-    expect("the filter's room", kiban_filter_bytes(KEYS), 48 + CELLS);
-    expect("filter build", kiban_filter_build(hashes, KEYS, wide, CELLS + KEYS, narrow, 2 * CELLS + KEYS, out,
-                                              48 + CELLS, &length, 1), 0);
-    expect("the filter's length", length, 48 + 14);
-    return length;
-}
-
-/* The header's lengths suffice for every count of hashes: workspace is tested before output, of which none is lent. */
-static void filter_room(void)
-{
-    static uint64_t hashes[MOST], wide[3 * MOST];
-    static uint32_t narrow[4 * MOST];
-    uint64_t answer = 0;
-    size_t n;
-    for (n = 1; n <= MOST; n++)
-        expect("room", kiban_filter_build(hashes, n, wide, kiban_filter_wide(n), narrow, kiban_filter_narrow(n), NULL, 0,
-                                          &answer, 1), KIBAN_REFUSED_BUFFER);
-}
-
-/* Reads and asks the filter: no key is absent, D is. */
-static void filter(void)
-{
-    uint64_t hashes[KEYS], answer[KIBAN_FILTER_WORDS];
-    uint8_t out[48 + CELLS], maybe[KEYS];
-    const uint64_t length = build_filter(hashes, out), absent = kiban_hash(bytes("D"), 1, 0);
-    size_t i;
-    expect("filter read", kiban_filter_read(out, length, answer, KIBAN_FILTER_WORDS), 0);
-    expect("form", answer[0], KIBAN_FUSE);
-    expect("keys of the filter", answer[1], KEYS);
-    expect("cells", answer[5], 14);
-    expect("ask all", kiban_filter_ask_all(out, length, hashes, KEYS, maybe, KEYS), 0);
-    for (i = 0; i < KEYS; i++)
-        expect("maybe", maybe[i], KIBAN_MAYBE);
-    expect("ask", kiban_filter_ask(out, length, absent), KIBAN_ABSENT);
-    expect("ask a filter cut short", kiban_filter_ask(out, length - 1, absent), KIBAN_REFUSED_FILTER);
-}
-
-/* The listing at limit 8. */
-static void listing(const uint8_t *body)
-{
-    static const char expected[] = "limit 8 keys 3 shown 1\n41 4 put 40 8\n";
-    static uint8_t text[KIBAN_LISTING_BYTES];
-    uint8_t input[16 + BODY] = {8, 0, 0, 0, 0, 0, 0, 0, DATA};
-    uint64_t length = 0;
-    memcpy(input + 16, body, BODY);
-    expect("listing", kiban_listing(input, sizeof input, text, sizeof text, &length, 1), 0);
-    expect("the text's length", length, sizeof expected - 1);
-    expect("the text", memcmp(text, expected, sizeof expected - 1) != 0, 0);
-    fwrite(text, 1, length, stdout);
-}
-
-/* A slice of no elements may have a null pointer: here all have. */
-static void all_empty(void)
-{
-    expect("hash", kiban_hash(NULL, 0, 0), 0);
-    expect("sort", kiban_sort(NULL, 0), 0);
-    expect("add", kiban_add(NULL, 0, NULL, 0, NULL, 0, KIBAN_PUT, 0, 0, 1, NULL, 0), KIBAN_REFUSED_BUFFER);
-    expect("set offset", kiban_set_offset(NULL, 0, NULL, 0, 0, 0), KIBAN_REFUSED_STATE);
-    expect("finish", kiban_finish(NULL, 0, NULL, 0, NULL, 0, NULL, 0, NULL, 0), KIBAN_REFUSED_BUFFER);
-    expect("validate", kiban_validate(NULL, 0, 0), KIBAN_REFUSED_MAGIC);
-    expect("get", kiban_get(NULL, 0, NULL, 0, NULL, 0, 0, 0, NULL, 0), KIBAN_REFUSED_BUFFER);
-    expect("build", kiban_filter_build(NULL, 0, NULL, 0, NULL, 0, NULL, 0, NULL, 0), KIBAN_REFUSED_BUFFER);
-    expect("read", kiban_filter_read(NULL, 0, NULL, 0), KIBAN_REFUSED_BUFFER);
-    expect("ask", kiban_filter_ask(NULL, 0, 0), KIBAN_REFUSED_FILTER);
-    expect("ask all", kiban_filter_ask_all(NULL, 0, NULL, 0, NULL, 0), KIBAN_REFUSED_FILTER);
-    expect("listing", kiban_listing(NULL, 0, NULL, 0, NULL, 0), KIBAN_REFUSED_BUFFER);
-}
-
-/* The same where the call goes on to look at its input, or has nothing to do. */
-static void some_empty(void)
-{
-    uint64_t state[KIBAN_STATE_WORDS] = {0, 0, 0}, answer[KIBAN_FILTER_WORDS];
-    uint8_t out[48];
-    expect("add, no state", kiban_add(NULL, 0, NULL, 0, NULL, 0, KIBAN_PUT, 0, 0, 1, answer, 1), KIBAN_REFUSED_STATE);
-    expect("add, no room", kiban_add(NULL, 0, state, 3, NULL, 0, KIBAN_PUT, 0, 0, 1, answer, 1), KIBAN_REFUSED_BUFFER);
-    expect("set offset, nothing added", kiban_set_offset(NULL, 0, state, 3, 0, 0), KIBAN_REFUSED_PLACE);
-    expect("finish, no key", kiban_finish(NULL, 0, NULL, 0, NULL, 0, NULL, 0, answer, 1), KIBAN_REFUSED_COUNT);
-    expect("get, no body", kiban_get(NULL, 0, NULL, 0, NULL, 0, 0, 0, answer, 4), KIBAN_REFUSED_DAMAGE);
-    expect("build, no room", kiban_filter_build(NULL, 0, NULL, 0, NULL, 0, NULL, 0, answer, 1), KIBAN_REFUSED_BUFFER);
-    expect("build of no hashes", kiban_filter_build(NULL, 0, NULL, 0, NULL, 0, out, 48, answer, 1), 0);
-    expect("ask for no hashes", kiban_filter_ask_all(out, 48, NULL, 0, NULL, 0), 0);
-    expect("read nothing", kiban_filter_read(NULL, 0, answer, KIBAN_FILTER_WORDS), KIBAN_REFUSED_FILTER);
-    expect("listing, no room", kiban_listing(NULL, 0, NULL, 0, answer, 1), KIBAN_REFUSED_BUFFER);
-    expect("listing of nothing", kiban_listing(NULL, 0, out, 48, answer, 1), 0);
-}
-
-/* A list whose one key has no bytes, beside data of none. */
-static void empty_key(void)
-{
-    uint64_t state[KIBAN_STATE_WORDS] = {0, 0, 0}, wide[2], answer[KIBAN_RECORD_WORDS] = {0, 0, 0, 0};
-    uint32_t narrow[16];
-    uint8_t arena[29], body[32 + 4 + 12 + 29];
-    const size_t size = sizeof body;
-    expect("add", kiban_add(arena, 29, state, 3, NULL, 0, KIBAN_PUT, 0, 5, 1, answer, 1), 0);
-    expect("finish, no workspace", kiban_finish(arena, 29, body, size, NULL, 0, NULL, 0, answer, 1),
-           KIBAN_REFUSED_WORKSPACE);
-    expect("finish, no room", kiban_finish(arena, 29, NULL, 0, wide, 2, narrow, 16, answer, 1), KIBAN_REFUSED_BUFFER);
-    expect("finish", kiban_finish(arena, 29, body, size, wide, 2, narrow, 16, answer, 1), 0);
-    expect("validate", kiban_validate(body, size, 0), 0);
-    expect("get", kiban_get(body, size, NULL, 0, NULL, 0, 0, 0, answer, 4), KIBAN_FOUND);
-    expect("sequence", answer[1], 5);
-}
-
-/* The litres of the washes, as the meter's text. */
-static const char litres[] = "8120812655";
-
-/* Tram 17's figure of 4 was corrected at 9. Tram 23's of 3 was withdrawn at 7: the tombstone's offset is the old one's. */
-static const struct record washes[] = {
-    {"tram 17", KIBAN_PUT, 1, 9, 4, 3},
-    {"tram 17", KIBAN_PUT, 0, 4, 0, 4},
-    {"tram 23", KIBAN_TOMBSTONE, 1, 7, 7, 0},
-    {"tram 23", KIBAN_PUT, 0, 3, 7, 3},
-};
-
-/* A validated body beside its data. */
-struct index {
-    const uint8_t *body, *data;
-    size_t body_length, data_length;
-};
-
-/* A tram's litres within the limit, which are a put's value; NULL if there are none: withdrawn, or no record. */
-static const uint8_t *figure(const struct index *index, const char *tram, uint64_t limit, size_t *length)
-{
-    uint64_t found[KIBAN_RECORD_WORDS]; /* kind, sequence, offset, length */
-    if (kiban_get(index->body, index->body_length, index->data, index->data_length, bytes(tram), strlen(tram), 1, limit,
-                  found, KIBAN_RECORD_WORDS) != KIBAN_FOUND || found[0] != KIBAN_PUT)
-        return NULL;
-    *length = found[3];
-    return index->data + found[2];
-}
-
-/* Prints a tram's figure within the limit; it has to be this text, or none for NULL. */
-static void show_figure(const struct index *index, const char *tram, uint64_t limit, const char *expected)
-{
-    size_t length = 0;
-    const uint8_t *value = figure(index, tram, limit, &length);
-    expect("a figure", value != NULL, expected != NULL);
-    printf("%s, limit %llu: ", tram, (unsigned long long)limit);
-    if (value && expected) {
-        expect("the figure's length", length, strlen(expected));
-        expect("the figure", memcmp(value, expected, length) != 0, 0);
-        printf("%.*s litres\n", (int)length, (const char *)value);
-    } else
-        puts("no figure");
-}
-
-/* The washes, built and asked at limits before and after the correction, and the withdrawal. */
-static void figures(void)
-{
-    uint8_t arena[ROOM], body[ROOM];
-    uint64_t state[KIBAN_STATE_WORDS] = {0, 0, 0}, length = 0;
-    struct index index = {body, bytes(litres), 0, sizeof litres - 1};
-    add_all(arena, sizeof arena, state, washes, sizeof washes / sizeof *washes);
-    expect("finish", finish_few(arena, state, body, &length), 0);
-    index.body_length = length;
-    expect("validate", kiban_validate(index.body, index.body_length, index.data_length), 0);
-    show_figure(&index, "tram 17", UINT64_MAX, "812");
-    show_figure(&index, "tram 17", 9, "812");
-    show_figure(&index, "tram 17", 8, "8120");
-    show_figure(&index, "tram 17", 3, NULL);
-    show_figure(&index, "tram 23", UINT64_MAX, NULL);
-    show_figure(&index, "tram 23", 7, NULL);
-    show_figure(&index, "tram 23", 6, "655");
-    show_figure(&index, "tram 23", 2, NULL);
-}
-
-/* The keys of the document's arena, which have several versions: each one's hash and place. */
-static void hashed_keys(const uint8_t *arena)
-{
-    struct kiban_pair hashed[KEYS];
-    size_t i;
-    kiban_hash_keys(arena, KEYS, 0, hashed);
-    for (i = 0; i < KEYS; i++) {
-        expect("a key's hash", hashed[i].first, kiban_hash(bytes("ABC") + i, 1, 0));
-        expect("a key's place", hashed[i].second, 51 * i);
-    }
-}
-
-/* Keys of 16 bytes; for each attempt the two with equal hashes, or twice 0; the first attempt that has the fewest pairs. */
-struct keys {
-    const char *keys[FEW];
-    size_t count;
-    uint8_t equal[KIBAN_ATTEMPTS][2];
-    unsigned fewest;
-};
-
-static const struct keys key_lists[] = {
-    {{"T0410-2024110300", "T0413-2024110308", "T0415-2024110308", "T0416-2024110300"}, 4,
-     {{2, 3}, {0, 1}, {0, 1}, {2, 3}, {0, 2}, {0, 2}, {0, 1}, {0, 2}}, 0},
-    {{"T0151-2019110300", "T0152-2019110308", "T0420-2019110300", "T0423-2019110308"}, 4,
-     {{0, 1}, {2, 3}, {2, 3}, {0, 1}, {0, 1}, {0, 1}, {2, 3}, {0, 0}}, 7},
-    {{"AAAAAAAABBBBBBBB", "AAAAQAAABBBBBBB\xc2"}, 2,
-     {{0, 1}, {0, 1}, {0, 1}, {0, 1}, {0, 1}, {0, 1}, {0, 1}, {0, 1}}, 0},
-    {{"W-20241103000410", "W-20241103080413"}, 2, {{0, 0}}, 0},
-};
-
-/* Adds the first so many keys of a list and finishes them: finish's number. */
-static uint64_t finish_keys(const struct keys *list, size_t count, uint8_t *arena, uint8_t *body)
-{
-    uint64_t state[KIBAN_STATE_WORDS] = {0, 0, 0}, place = 0, length = 0;
-    struct record put = {NULL, KIBAN_PUT, 1, 1, 0, 0};
-    size_t i;
-    for (i = 0; i < count; i++) {
-        put.key = list->keys[i];
-        expect("add a key", add(arena, ROOM, state, &put, &place), 0);
-    }
-    return finish_few(arena, state, body, &length);
-}
-
-/* So many pairs were found for an attempt: the one that the list says, or none. */
-static void expect_pairs(const struct keys *list, unsigned attempt, const struct kiban_pair *pairs, size_t found)
-{
-    const uint8_t *equal = list->equal[attempt];
-    expect("pairs", found, equal[1] != 0);
-    if (found != 0) {
-        expect("the first key's place", pairs[0].first, equal[0] * kiban_record_bytes(16, 1));
-        expect("the second key's place", pairs[0].second, equal[1] * kiban_record_bytes(16, 1));
-    }
-}
-
-/* Prints a key of the arena, in hex. */
-static void print_key(const uint8_t *arena, uint64_t place)
-{
-    size_t i, length;
-    const uint8_t *key = kiban_key_at(arena, place, &length);
-    for (i = 0; i < length; i++)
-        printf("%02x", key[i]);
-}
-
-/* Prints pairs of keys, a line each. */
-static void print_pairs(const uint8_t *arena, const struct kiban_pair *pairs, size_t count)
-{
-    size_t i;
-    for (i = 0; i < count; i++) {
-        printf("refused 10, equal hashes: ");
-        print_key(arena, pairs[i].first);
-        printf(" ");
-        print_key(arena, pairs[i].second);
+    const uint8_t *value;
+    size_t length;
+    switch (kiban_value(body.at, body.length, data.at, data.length, (const uint8_t *)key, strlen(key), 1, limit, &value,
+                        &length)) {
+    case KIBAN_ANSWER_PUT:
+        printf("%s: %llu bytes: ", key, (unsigned long long)length);
+        fwrite(value, 1, length, stdout);
         printf("\n");
+        break;
+    case KIBAN_ANSWER_WITHDRAWN:
+        printf("%s: withdrawn\n", key);
+        break;
+    case KIBAN_ANSWER_NOTHING:
+        printf("%s: no record within the limit\n", key);
+        break;
+    case KIBAN_ANSWER_DAMAGE:
+        return refused(path, KIBAN_REFUSED_DAMAGE);
     }
+    return 1;
 }
 
-/* The body's seed is that of an attempt. */
-static void expect_seed(const uint8_t *body, unsigned attempt)
+/* Writes a number's eight bytes, the lowest first. */
+static void put_u64(uint8_t *at, uint64_t number)
 {
-    expect("the seed's low half", kiban_u32_at(body, 8), kiban_seed(attempt) & 0xffffffff);
-    expect("the seed's high half", kiban_u32_at(body, 12), kiban_seed(attempt) >> 32);
+    unsigned i;
+    for (i = 0; i < 8; i++)
+        at[i] = (uint8_t)(number >> 8 * i);
 }
 
-/* The keys that keep a list from being placed are named. Each list's last key is the second of the fewest pairs. */
-static void equal_hashes(const struct keys *list)
+/* Prints the listing at the limit. */
+static int print_listing(const char *path, struct bytes body, uint64_t data_length, uint64_t limit)
 {
-    uint8_t arena[ROOM], body[ROOM];
-    const int placed = list->equal[list->fewest][1] == 0;
-    struct kiban_pair pairs[FEW];
-    unsigned attempt;
-    size_t found;
-    expect("finish keys", finish_keys(list, list->count, arena, body), placed ? 0 : KIBAN_REFUSED_ATTEMPTS);
-    for (attempt = 0; attempt < KIBAN_ATTEMPTS; attempt++) {
-        found = kiban_equal_hashes(arena, list->count, attempt, pairs);
-        expect_pairs(list, attempt, pairs, found);
-    }
-    found = kiban_fewest_equal_hashes(arena, list->count, pairs, &attempt);
-    expect("the attempt with the fewest", attempt, list->fewest);
-    expect_pairs(list, attempt, pairs, found);
-    print_pairs(arena, pairs, found);
-    if (!placed)
-        expect("finish without the last key", finish_keys(list, list->count - 1, arena, body), 0);
-    expect_seed(body, list->fewest);
+    static uint8_t text[KIBAN_LISTING_BYTES];
+    uint64_t length = 0;
+    uint8_t *input = (uint8_t *)malloc(16 + body.length);
+    if (input == NULL)
+        return failed("listing", strerror(errno));
+    put_u64(input, limit);
+    put_u64(input + 8, data_length);
+    memcpy(input + 16, body.at, body.length);
+    uint64_t number = kiban_listing(input, 16 + body.length, text, sizeof text, &length, 1);
+    free(input);
+    if (memcmp(text, "refused ", 8) == 0)
+        number = strtoull((const char *)text + 8, NULL, 10);
+    if (number != 0)
+        return refused(path, number);
+    fwrite(text, 1, length, stdout);
+    return (fflush(stdout) == 0 && !ferror(stdout)) || failed("standard output", "it took no more: the text is cut");
 }
 
-/* Three keys with one hash under every seed: two pairs, and each key but the first is second in one. */
-static void three_equal(void)
+/* Tests and cuts the trailer, validates, and prints what was asked for. */
+static int show(const char *path, struct bytes index, struct bytes data, const char *key, uint64_t limit)
 {
-    static const struct keys three = {
-        {"AAAAAAAAAAAAAAAAAAAAAAAA", "AAAAAAAAAAAAQAAAAAAAAAA\xc1", "AAAAQAAAAAAAAAA\xc1" "AAAAAAAA"}, 3, {{0, 0}}, 0};
-    const size_t entry = kiban_record_bytes(24, 1);
-    struct kiban_pair pairs[FEW];
-    uint8_t arena[ROOM], body[ROOM];
-    unsigned attempt;
-    expect("finish three", finish_keys(&three, 3, arena, body), KIBAN_REFUSED_ATTEMPTS);
-    for (attempt = 0; attempt < KIBAN_ATTEMPTS; attempt++) {
-        expect("pairs of three", kiban_equal_hashes(arena, 3, attempt, pairs), 2);
-        expect("the first pair", pairs[0].first == 0 && pairs[0].second == entry, 1);
-        expect("the second pair", pairs[1].first == entry && pairs[1].second == 2 * entry, 1);
-    }
+    if (!kiban_file_body(index.at, index.length, &index.length))
+        return failed(path, "no right trailer: the file is cut, damaged or no index file of the store");
+    const uint64_t number = kiban_validate(index.at, index.length, data.length);
+    if (number != 0)
+        return refused(path, number);
+    return print_value(path, index, data, key, limit) && print_listing(path, index, data.length, limit);
 }
 
-int main(void)
+int main(int argc, char **argv)
 {
-    uint8_t arena[ARENA], body[BODY], data[DATA];
-    uint64_t state[KIBAN_STATE_WORDS] = {0, 0, 0};
-    size_t i;
-    for (i = 0; i < DATA; i++)
-        data[i] = (uint8_t)i;
-    numbers();
-    build(arena, state);
-    finish(arena, state, body);
-    look_up(body, data, "A", 0, 0, &records[0]);
-    look_up(body, data, "A", 1, 8, &records[1]);
-    look_up(body, data, "A", 1, 3, NULL);
-    look_up(body, data, "B", 0, 0, &records[2]);
-    look_up(body, data, "", 0, 0, NULL);
-    filter();
-    filter_room();
-    listing(body);
-    all_empty();
-    some_empty();
-    empty_key();
-    figures();
-    hashed_keys(arena);
-    for (i = 0; i < sizeof key_lists / sizeof *key_lists; i++)
-        equal_hashes(&key_lists[i]);
-    three_equal();
-    return differing;
+    struct bytes index = {NULL, 0}, data = {NULL, 0};
+    uint64_t limit = UINT64_MAX;
+    int done = 0;
+    if (argc != 4 && argc != 5)
+        failed("usage", "example INDEX DATA KEY [LIMIT]");
+    else if ((argc == 4 || read_limit(argv[4], &limit)) && read_file(argv[1], &index) && read_file(argv[2], &data))
+        done = show(argv[1], index, data, argv[3], limit);
+    free(index.at);
+    free(data.at);
+    return done ? 0 : 1;
 }

@@ -1,9 +1,11 @@
 /*
- * Where kiban_finish answers 10: the keys that no attempt could place together. Finish tries eight seeds, and an attempt
- * fails if two keys have equal hashes under its seed. These helpers name such pairs, by kiban_hash and sorting; they are
- * plain C beside the library, and not part of what is proved. README.md, "What a list can meet", says what to do then.
+ * Where kiban_finish answers 10: the keys that no attempt could place together. Finish tries eight seeds, and an
+ * attempt fails if two keys have equal hashes under its seed. These helpers name such pairs, by kiban_hash and
+ * sorting; they are plain C beside the library, and not part of what is proved. README.md, "What a list can meet",
+ * says what to do then.
  *
- * arena: one that kiban_finish answers 10 for, or a body for; n: its keys, which is state[1]. Nothing is allocated here.
+ * arena: one that kiban_finish answers 10 for, or a body for; n: its keys, which is state[KIBAN_STATE_KEYS]. Nothing
+ * is allocated here.
  */
 #ifndef KIBAN_KEYS_H
 #define KIBAN_KEYS_H
