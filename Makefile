@@ -1,6 +1,4 @@
-# make test is the gate; make run shows the main program on a stored example.
-# make compare runs the given Rust beside the Rattle code, make bench times both: they need cargo, and the given Rust at DOCS_SRC.
-# make bindings tries the host side of the C boundary, as make compare does first: it needs cargo and a C compiler.
+# `make` prints what there is. README.md, "Commands", says the same and more.
 DOCS_SRC ?= ../shared/docs/src
 CASES ?= 100000
 SEED ?= 1
@@ -8,73 +6,122 @@ CALL ?=
 JOBS ?= 1
 INDEX ?=
 DATA ?=
+LIMIT ?=
 HASHES ?=
+ROBUST_CASES ?= 20000
 
-ORACLE = sh compare/oracle/make-oracle.sh $(DOCS_SRC) target/oracle
-CARGO = cargo build --quiet --offline --locked --manifest-path compare/Cargo.toml --target-dir target/compare
-# Runs a command quietly; its output is shown where it fails.
-QUIET = mkdir -p target && quiet() { "$$@" > target/quiet.log 2>&1 || { cat target/quiet.log; exit 1; }; } && quiet
+LIBRARY = target/staticlib/libkiban_c.a
+PROGRAM = target/bin/listing
+BESIDE = target/bin/beside
+# What the library and the program are made of: made anew where one of these changed, and not else.
+SOURCES := crates.txt $(shell find crates -name must-fail -prune -o \( -type d -o -name '*.rt' -o -name '*.antt' \) -print)
 
-.PHONY: test run wrong bindings compare compare-tool compare-files compare-hashes bench speed stack robust vectors
+NEED = sh scripts/need
+# What every comparison with the old Rust needs.
+BOTH = rt cargo "DOCS_SRC=$(DOCS_SRC)"
+AGAIN = $(MAKE) --silent --no-print-directory
+CARGO = cargo build --quiet --offline --locked --manifest-path compare/Cargo.toml --target-dir target/beside
+
+.PHONY: help run library test wrong bindings compare-tool compare compare-files compare-hashes release bench speed stack robust vectors clean
+help:
+	@sed -n '/^## Commands/,/^## /{/^    [a-z]/p}' README.md
+
+run:
+	@$(NEED) rt
+	@$(AGAIN) $(PROGRAM)
+	@$(PROGRAM) < crates/listing/stdin
+
+library:
+	@$(NEED) rt
+	@$(AGAIN) $(LIBRARY)
+
+$(PROGRAM): $(SOURCES)
+	@sh scripts/prove check listing
+	@touch $@
+
+$(LIBRARY): $(SOURCES)
+	@sh scripts/prove staticlib kiban_c
+	@touch $@
+
 test:
 	@sh scripts/check-toolchain
 	@sh scripts/check-quotes && sh scripts/test-check-trust
 	@sh scripts/check-specs && sh scripts/test-check-specs
 	@sh scripts/check-mixrule && sh scripts/test-check-mixrule
 	@sh scripts/check-public && sh scripts/test-check-public
+	@sh scripts/check-numbers && sh scripts/test-check-numbers
+	@sh scripts/draw-crates --check
+	@sh scripts/test-make
 	@sh scripts/test-listing-input
 	@rt fmt --check && sh scripts/gate
 
-run:
-	@$(QUIET) rt check listing
-	@target/bin/listing < crates/listing/stdin
-
 wrong:
+	@$(NEED) rt
 	@sh scripts/try-wrong
 
 bindings:
-	@$(QUIET) rt staticlib kiban_c
+	@$(NEED) rt cargo cc
+	@$(AGAIN) $(LIBRARY)
 	@sh scripts/bindings
 
+# The tool that runs the old Rust beside this code, with overflow checks on the Rust's side.
 compare-tool:
-	@$(QUIET) rt staticlib kiban_c
-	@$(ORACLE)
-	@$(CARGO) --profile compare
+	@$(NEED) $(BOTH)
+	@$(AGAIN) $(LIBRARY)
+	@sh compare/oracle/make-oracle.sh "$(DOCS_SRC)" target/oracle
+	@echo "building $(BESIDE)"
+	@$(CARGO) --profile checked
+	@mkdir -p target/bin && cp target/beside/checked/beside $(BESIDE)
 
 # With CALL, that call alone.
-compare: compare-tool
+compare:
+	@$(NEED) $(BOTH) cc "CASES=$(CASES)" "SEED=$(SEED)" "JOBS=$(JOBS)"
+	@$(AGAIN) compare-tool
 	@$(if $(CALL),:,sh scripts/bindings)
-	@target/compare/compare/compare compare $(SEED) $(CASES) "$(CALL)" $(JOBS)
+	@$(BESIDE) compare $(SEED) $(CASES) "$(CALL)" $(JOBS)
 
 # An index of the plant and its data, or hashes of it, on both sides.
-compare-files: compare-tool
-	@target/compare/compare/compare index "$(INDEX)" "$(DATA)"
+compare-files:
+	@$(NEED) $(BOTH) "INDEX=$(INDEX)" "DATA=$(DATA)" "LIMIT=$(LIMIT)"
+	@$(AGAIN) compare-tool
+	@$(BESIDE) index "$(INDEX)" "$(DATA)" $(LIMIT)
 
-compare-hashes: compare-tool
-	@target/compare/compare/compare hashes "$(HASHES)"
+compare-hashes:
+	@$(NEED) $(BOTH) "HASHES=$(HASHES)"
+	@$(AGAIN) compare-tool
+	@$(BESIDE) hashes "$(HASHES)"
 
-RELEASE = $(QUIET) rt staticlib kiban_c && $(ORACLE) && $(CARGO) --release
-bench:
-	@$(RELEASE)
-	@target/compare/release/compare bench "$(CALL)"
+# The same tool as it is timed: a plain release build.
+release:
+	@$(NEED) $(BOTH)
+	@$(AGAIN) $(LIBRARY)
+	@sh compare/oracle/make-oracle.sh "$(DOCS_SRC)" target/oracle
+	@echo "building target/beside/release/beside"
+	@$(CARGO) --release
+
+bench: release
+	@target/beside/release/beside bench "$(CALL)"
 
 # The figures of docs/SPEED.md made anew: its table, and its plot. For a machine that does nothing else.
 speed: bench
-	@target/compare/release/compare bench plot
+	@target/beside/release/beside bench plot
 	@cp target/plot.tsv docs/speed.tsv
 	@sh scripts/draw-speed && sh scripts/speed-table
 
 # The stack that each call takes, and each program.
-stack:
-	@$(RELEASE)
-	@target/compare/release/compare stack
+stack: release
+	@target/beside/release/beside stack
 	@sh scripts/stack-programs
 
-# The comparison, the C example and the package's tests under valgrind and sanitizers; ROBUST_CASES takes some five minutes.
-ROBUST_CASES ?= 20000
-robust: compare-tool
+# The comparison, the C example and tests and the package's tests under valgrind and sanitizers.
+robust:
+	@$(NEED) $(BOTH) cc valgrind "SEED=$(SEED)" "CASES=$(ROBUST_CASES)"
+	@$(AGAIN) compare-tool
 	@sh scripts/robust $(SEED) $(ROBUST_CASES)
 
 # Writes the stored vectors anew.
 vectors: compare-tool
-	@target/compare/compare/compare vectors
+	@$(BESIDE) vectors
+
+clean:
+	rm -rf target
