@@ -2,6 +2,9 @@
 # make-oracle.sh DOCS_SRC OUT: derives the cargo package of the oracle from the given Rust.
 # Every edit of the given text is made here; OUT/EDITS.diff shows them. A file of OUT is written only where it changes.
 set -eu
+if [ ! -f "$1/src/sstable/point.rs" ]; then
+    echo "make-oracle.sh: the given Rust is not at $1 (no src/sstable/point.rs there): name its folder, make DOCS_SRC=.." >&2; exit 1
+fi
 given=$(cd "$1/src" && pwd)
 here=$(cd "$(dirname "$0")" && pwd)
 mkdir -p "$2/src/sstable/point" "$2/probes"

@@ -7,9 +7,12 @@ mod mix;
 mod sort;
 mod validate;
 
+use crate::stored::repository;
+use crate::{End, Ended, named};
 use oracle::Rng;
 use oracle::lines::{Rec, rust_builder};
 use std::hint::black_box;
+use std::io::Write;
 
 /// One call, timed at several sizes.
 pub trait Bench {
@@ -201,10 +204,15 @@ impl Row {
 }
 
 /// Prints the table and writes it to a file. `plot` measures what the plot shows, at its key counts; a call's name, that call.
-pub fn run_all(only: &str) -> bool {
-    oracle::TRAILER.store(false, std::sync::atomic::Ordering::Relaxed);
+pub fn run_all(only: &str) -> Ended {
     let plot = only == "plot";
+    if !plot {
+        named(only, ALL.iter().map(|entry| entry.name))?;
+    }
     let file = if plot { "target/plot.tsv" } else { "target/bench.tsv" };
+    let failed = |e: std::io::Error| format!("{file}: {e}");
+    let mut written = std::fs::File::create(repository().join(file)).map_err(failed)?;
+    oracle::TRAILER.store(false, std::sync::atomic::Ordering::Relaxed);
     println!(
         "{:<22} {:>13} {:>13} {:>13} {:>6} {:>14} {:>9}  in the timed part",
         "call", "n", "ours ns", "Rust ns", "ratio", "middle half", "runs"
@@ -219,5 +227,6 @@ pub fn run_all(only: &str) -> bool {
         }
     }
     println!("medians of rounds in turn; runs: rounds x runs a round, on each side; written to {file}");
-    std::fs::write(file, text).is_ok()
+    written.write_all(text.as_bytes()).map_err(failed)?;
+    Ok(End::Same)
 }

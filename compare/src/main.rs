@@ -9,38 +9,81 @@ mod stored;
 mod table;
 mod tables;
 mod theirs;
+mod trailers;
 mod worst;
 
 use calls::Plan;
+use progress::Progress;
 use std::process::ExitCode;
 use table::Table;
 use wobarelind::sys as ours;
 
 const USAGE: &str = "usage:
-    compare index INDEX_FILE DATA_FILE          an index of the plant with its trailer, and the values
-    compare hashes HASHES_FILE                  a filter of these hashes (u64, little-endian)
-    compare filter FILTER_FILE [HASHES_FILE]    a stored filter, asked for these hashes, or for drawn ones
-    compare sample DIR [KEYS]                   writes such files: a small plant, or one of so many drawn keys
-    compare compare SEED CASES [CALL [JOBS]]    drawn cases of every call, or of those with CALL in their name
-    compare bench [CALL | plot]                 times, or those that docs/speed.svg shows
-    compare stack                               the stack that each call takes
-    compare vectors                             writes the stored vectors anew
-    compare oracle COMMAND ..                   the old Rust alone
-It exits with 0 where nothing differs, 1 where something does, 2 where it can't run.";
+    beside index INDEX DATA [LIMIT]                an index of the plant with its trailer, and the values; listed at LIMIT too
+    beside hashes HASHES                           a filter of these hashes (u64, little-endian)
+    beside filter FILTER [HASHES]                  a stored filter, asked for these hashes, or for drawn ones
+    beside sample DIR [KEYS]                       writes such files: a small plant, or one of so many drawn keys
+    beside compare [SEED [CASES [CALL [JOBS]]]]    drawn cases of every call, or of those with CALL in their name
+    beside bench [CALL | plot]                     times, or those that docs/speed.svg shows
+    beside stack                                   the stack that each call takes
+    beside vectors                                 writes the stored vectors anew
+    beside oracle COMMAND ..                       the old Rust alone
+LIMIT is a sequence up to 18446744073709551615, or none.
+Exit codes: 0 nothing differs; 1 something differs; 2 it can't run; 3 nothing differs, and the file is refused.";
 
-/// What a command comes to: whether all is the same, or why it can't run.
-type Ended = Result<bool, String>;
+/// The most threads that a comparison takes.
+const MOST_JOBS: u64 = 256;
 
-/// A number that is given, or the usual one where none is.
-fn number(word: &str, otherwise: u64) -> Result<u64, String> {
-    if word.is_empty() { Ok(otherwise) } else { word.parse().map_err(|_| format!("not a number: {word}")) }
+/// What a command comes to. Its number is the exit code.
+#[derive(Clone, Copy)]
+enum End {
+    Same = 0,
+    Differs = 1,
+    /// Nothing differs, and the file is refused.
+    Refused = 3,
 }
 
-/// Every call, then what the repository stores of the Rust's answers, and the tool on a plant's files.
-fn compare(plan: Plan, only: &str) -> Ended {
-    if plan.jobs == 0 {
-        return Err("JOBS is at least 1".into());
+/// What a command comes to, or why it can't run, which is exit code 2.
+type Ended = Result<End, String>;
+
+/// A decimal number that is given, or the usual one where the word is empty.
+fn number(name: &str, word: &str, otherwise: u64) -> Result<u64, String> {
+    match word.parse() {
+        _ if word.is_empty() => Ok(otherwise),
+        Ok(number) if !word.starts_with('+') => Ok(number),
+        _ => Err(format!("{name} is a decimal number up to {}, not {word:?}", u64::MAX)),
     }
+}
+
+/// The limit of a listing; 2^64 - 1 where there is none.
+fn limit(word: &str) -> Result<u64, String> {
+    let given = if word == "none" { "" } else { word };
+    number("LIMIT", given, u64::MAX).map_err(|why| format!("{why}; or the word none"))
+}
+
+/// Whether some name has a call's name in it; if not, those that there are.
+fn named(call: &str, names: impl Iterator<Item = &'static str>) -> Result<(), String> {
+    let names: Vec<&str> = names.collect();
+    if names.iter().any(|name| name.contains(call)) {
+        return Ok(());
+    }
+    Err(format!("no call has {call:?} in its name; there are: {}", names.join("; ")))
+}
+
+/// What a comparison draws, from the words behind `compare`; all of them are checked here.
+fn plan(words: &[&str]) -> Result<Plan, String> {
+    let word = |at: usize| words.get(at).copied().unwrap_or("");
+    let (seed, cases) = (number("SEED", word(0), 1)?, number("CASES", word(1), 100_000)?);
+    let jobs = number("JOBS", word(3), 1)?;
+    if !(1..=MOST_JOBS).contains(&jobs) {
+        return Err(format!("JOBS is 1 to {MOST_JOBS}, not {jobs}"));
+    }
+    named(word(2), calls::ALL.iter().map(|call| call.name))?;
+    Ok(Plan { seed, cases, jobs })
+}
+
+/// Every call, then what the repository stores of the Rust's answers, the trailers, and the tool on a plant's files.
+fn compare(plan: Plan, only: &str) -> End {
     let mut table = Table::new(&["call", "cases", "differ", "seconds"]);
     for call in calls::ALL.iter().filter(|c| c.name.contains(only)) {
         table.add((call.run)(plan));
@@ -48,44 +91,54 @@ fn compare(plan: Plan, only: &str) -> Ended {
     let mut fine = true;
     if only.is_empty() {
         stored::check().into_iter().chain(tables::check()).for_each(|line| table.add(line));
+        table.add(trailers::check());
         table.add(plant::trial::check());
         fine = numbers::print(&table.numbers);
     }
     println!("seed {}, {} cases in all, {} differ", plan.seed, table.cases, table.differ);
-    Ok(fine && table.differ == 0)
+    if fine && table.differ == 0 { End::Same } else { End::Differs }
+}
+
+/// The old Rust alone. Two of its commands wait for standard input, and say nothing meanwhile.
+fn oracle(words: &[&str]) -> Ended {
+    let command = oracle::command::parse(words)?;
+    let waits = ["lines", "listing"].contains(&words[0]);
+    let _waiting = (!waits).then(|| Progress::waiting(&format!("oracle {}", words[0])));
+    command();
+    Ok(End::Same)
 }
 
 fn command(words: &[&str]) -> Ended {
-    let word = |at: usize| words.get(at).copied().unwrap_or("");
     match words {
-        ["compare", ..] if words.len() <= 5 => {
-            let (seed, cases) = (number(word(1), 1)?, number(word(2), 100_000)?);
-            compare(Plan { seed, cases, jobs: number(word(4), 1)? }, word(3))
-        }
-        ["bench", ..] => Ok(benches::run_all(word(1))),
+        ["compare", rest @ ..] if rest.len() <= 4 => Ok(compare(plan(rest)?, rest.get(2).unwrap_or(&""))),
+        ["bench"] => benches::run_all(""),
+        ["bench", call] => benches::run_all(call),
         ["stack"] => Ok(stack::run_all()),
-        ["vectors"] => Ok(stored::write()),
-        ["index", index, data] => plant::index::run(index, data),
+        ["vectors"] => stored::write(),
+        ["index", index, data] => plant::index::run(index, data, u64::MAX),
+        ["index", index, data, at] => plant::index::run(index, data, limit(at)?),
         ["hashes", hashes] => plant::hashes::run(hashes),
         ["filter", filter] => plant::filter::run(filter, None),
         ["filter", filter, hashes] => plant::filter::run(filter, Some(hashes)),
         ["sample", dir] => plant::sample::run(dir, 0),
-        ["sample", dir, keys] => plant::sample::run(dir, number(keys, 0)?),
-        _ => Err(USAGE.into()),
+        ["sample", dir, keys] => plant::sample::run(dir, number("KEYS", keys, 0)?),
+        ["oracle", rest @ ..] => oracle(rest),
+        [] => Err(format!("a command is wanted\n{USAGE}")),
+        _ => Err(format!("no command is written so: {}\n{USAGE}", words.join(" "))),
     }
 }
 
 fn main() -> ExitCode {
-    let args: Vec<String> = std::env::args().skip(1).collect();
-    if args.first().is_some_and(|word| word == "oracle") {
-        oracle::command::run(&args[1..]);
+    let args: Vec<String> = std::env::args_os().skip(1).map(|word| word.to_string_lossy().into_owned()).collect();
+    let words: Vec<&str> = args.iter().map(String::as_str).collect();
+    if let ["-h" | "--help"] = words[..] {
+        println!("{USAGE}");
         return ExitCode::SUCCESS;
     }
-    let words: Vec<&str> = args.iter().map(String::as_str).collect();
     match command(&words) {
-        Ok(fine) => ExitCode::from(!fine as u8),
+        Ok(end) => ExitCode::from(end as u8),
         Err(why) => {
-            eprintln!("{why}");
+            eprintln!("beside: {why}");
             ExitCode::from(2)
         }
     }

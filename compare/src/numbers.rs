@@ -1,49 +1,60 @@
-//! The numbers of document 01 with their causes, and how often a run met each.
+//! The numbers of refusals: their causes are the package's, what to do at each stands in docs/NUMBERS.md; and how often a run met each.
 use std::collections::BTreeMap;
+use wobarelind::Refusal;
 
-/// Number and cause, and what a run can't meet of it.
-const CAUSES: &[(u64, &str, &str)] = &[
-    (0, "none: taken, accepted, found, nothing, absent, maybe", ""),
-    (1, "builder state and buffer do not fit", ""),
-    (2, "key or value too long", ""),
-    (3, "tombstone with nonzero length", ""),
-    (4, "key or sequence out of order", ""),
-    (5, "too many keys, or none", "by keys alone: a version beyond 4,294,967,295 needs a buffer of 90 GB"),
-    (6, "buffer too short", ""),
-    (7, "place is not used - 8, or nothing added", ""),
-    (8, "arena breaks a key or version rule", ""),
-    (9, "workspace too short", ""),
-    (10, "all eight attempts failed", ""),
-    (11, "self-check", "can't be met: finish never answers it"),
-    (12, "more than 65,536 hashes", ""),
-    (14, "lookup meets damage", ""),
-    (15, "filter bytes not accepted", ""),
-    (16, "input under 16 or over 65,536 bytes", ""),
-    (20, "body under 32 bytes or wrong magic", ""),
-    (21, "dimensions", ""),
-    (22, "direct pilot at or past n", ""),
-    (23, "under 8 bytes left", ""),
-    (24, "key length, or no versions", ""),
-    (25, "keys not strictly rising", ""),
-    (26, "slot offset or fingerprint", ""),
-    (27, "under 21 bytes left", ""),
-    (28, "kind", ""),
-    (29, "value length, place or order of sequences", ""),
-    (30, "bytes left over", ""),
+/// The table of the numbers: `| number | name | cause | given by | what to do |`.
+const TABLE: &str = include_str!("../../docs/NUMBERS.md");
+
+/// What a run can't meet of a number: of 5 a part, of 11 all.
+const UNMET: &[(Refusal, &str)] = &[
+    (Refusal::COUNT, "by keys alone: a version beyond 4,294,967,295 needs a buffer of 90 GB"),
+    (Refusal::SELF_CHECK, "can't be met: finish never answers it"),
 ];
 
-/// What no run can meet.
-const NEVER: &[u64] = &[11];
+/// What docs/NUMBERS.md says to do at a number; none where it has no such row.
+fn what_to_do(number: u64) -> Option<&'static str> {
+    let columns = |row: &'static str| row.split('|').map(str::trim).collect::<Vec<_>>();
+    TABLE.lines().map(columns).find_map(|row| match row[..] {
+        ["", of, _, _, _, what, ""] if of == number.to_string() => Some(what),
+        _ => None,
+    })
+}
+
+/// A number, its cause and what to do, as a verdict ends.
+pub fn told(number: u64) -> String {
+    let cause = Refusal::from_number(number).map_or("no number of a refusal", Refusal::cause);
+    format!("{number}: {cause}. {}", what_to_do(number).unwrap_or("docs/NUMBERS.md does not say what to do."))
+}
+
+/// What is wrong with how often a number was answered, or with docs/NUMBERS.md; nothing where all is well.
+fn wrong(refusal: Refusal, times: u64) -> Option<&'static str> {
+    if what_to_do(refusal.number()).is_none() {
+        return Some("has no row in docs/NUMBERS.md");
+    }
+    match (times > 0, refusal == Refusal::SELF_CHECK) {
+        (false, false) => Some("was never met"),
+        (true, true) => Some("was met, and finish never answers it"),
+        _ => None,
+    }
+}
+
+/// Prints a row of the table: the number, how often it was answered, its cause, and a note on that. Whether all is well.
+fn row(refusal: Refusal, times: u64) -> bool {
+    let wrong = wrong(refusal, times);
+    let unmet = UNMET.iter().find(|(of, _)| *of == refusal).map(|(_, why)| *why);
+    let note = wrong.or(unmet).map_or(String::new(), |note| format!(" [{note}]"));
+    println!("{:>6} {times:>10}  {}{note}", refusal.number(), refusal.cause());
+    wrong.is_none()
+}
 
 /// Prints the table, and says whether each number that can be met was, and no other.
 pub fn print(met: &BTreeMap<u64, u64>) -> bool {
-    println!("{:>6}  {:<54} {:>10}", "number", "cause", "answers");
-    let mut fine = met.keys().all(|n| CAUSES.iter().any(|c| c.0 == *n));
-    for (number, cause, unmet) in CAUSES {
-        let times = met.get(number).copied().unwrap_or(0);
-        println!("{}", format!("{number:>6}  {cause:<54} {times:>10}  {unmet}").trim_end());
-        fine &= (times > 0) != NEVER.contains(number);
-    }
-    println!("{:>6}  13 and 17 to 19 are no numbers of document 01", "");
-    fine
+    let times = |number| met.get(&number).copied().unwrap_or(0);
+    println!("{:>6} {:>10}  cause", "number", "answers");
+    println!("{:>6} {:>10}  none: taken, accepted, found, nothing, absent, maybe", 0, times(0));
+    let fine = Refusal::ALL.into_iter().map(|refusal| row(refusal, times(refusal.number())));
+    let fine = fine.fold(times(0) > 0, |all, one| all && one);
+    let others: Vec<&u64> = met.keys().filter(|&&n| n > 0 && Refusal::from_number(n).is_none()).collect();
+    others.iter().for_each(|number| println!("{number:>6} {:>10}  [no number of document 01]", times(**number)));
+    fine && others.is_empty()
 }

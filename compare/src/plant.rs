@@ -8,3 +8,4 @@ mod lookups;
 mod report;
 pub mod sample;
 pub mod trial;
+mod verdict;

@@ -1,6 +1,7 @@
 //! The stored vectors: the program `replay` has the oracle's vector file for its `stdin`, as it was made.
-use crate::ours;
+use crate::progress::Progress;
 use crate::table::Line;
+use crate::{End, Ended, ours};
 use oracle::{paper, rp, vectors};
 use std::path::{Path, PathBuf};
 
@@ -8,6 +9,12 @@ use std::path::{Path, PathBuf};
 const SEED: u64 = 1;
 const SCALE: u64 = 1;
 const DIGEST: u64 = 0x4994_23f0_f58a_902e;
+
+/// The file made anew.
+fn fresh() -> Vec<u8> {
+    let _waiting = Progress::waiting("vectors made anew");
+    vectors::make(SEED, SCALE)
+}
 
 /// A file's cases, each with its op first.
 fn cases(file: &[u8]) -> Vec<&[u8]> {
@@ -37,6 +44,9 @@ struct Made {
     number: u64,
     words: Vec<u64>,
 }
+
+/// What a made case comes to by the boundary: the number and the words.
+type Run = fn(&Made) -> (u64, Vec<u64>);
 
 /// The made cases of an op.
 fn made(file: &[u8], op: u8) -> Vec<Made> {
@@ -80,14 +90,16 @@ fn built(c: &Made) -> (u64, Vec<u64>) {
 /// The made cases of both ops, those too large for a program among them, by the boundary.
 fn replay(file: &[u8]) -> Line {
     Line::timed("stored, by the boundary", |line| {
-        let ops: [(u8, fn(&Made) -> (u64, Vec<u64>)); 2] = [(0x19, finished), (0x31, built)];
+        let ops: [(u8, Run); 2] = [(0x19, finished), (0x31, built)];
         for (op, run) in ops {
             let all = made(file, op);
+            let progress = Progress::new(&format!("stored, op {op:#04x}"), all.len() as u64);
             for c in &all {
                 let ours = run(c);
                 line.count(ours == (c.number, c.words.clone()), || {
                     format!("op {op:#04x}, seed {}, n {}: {ours:?}, stored {} {:?}", c.seed, c.n, c.number, c.words)
                 });
+                progress.step();
             }
             let large = all.iter().filter(|c| c.n >= 65_535).count();
             line.notes.push(format!("op {op:#04x}: {}, {large} of them of 65,535 and more", all.len()));
@@ -97,33 +109,33 @@ fn replay(file: &[u8]) -> Line {
 
 /// The vectors made anew, against the digest recorded and the file stored; then the made cases.
 pub fn check() -> Vec<Line> {
-    let mut fresh = Vec::new();
+    let mut made = Vec::new();
     let anew = Line::timed("vectors made anew", |line| {
-        fresh = vectors::make(SEED, SCALE);
-        line.cases = cases(&fresh).len() as u64;
-        let digest = rp::hash(&fresh, 0);
+        made = fresh();
+        line.cases = cases(&made).len() as u64;
+        let digest = rp::hash(&made, 0);
         if digest != DIGEST {
             line.differ += 1;
-            line.notes.push(format!("not the file recorded: {} bytes, digest {digest:#018x}", fresh.len()));
+            line.notes.push(format!("not the file recorded: {} bytes, digest {digest:#018x}", made.len()));
         }
         let stored = std::fs::read(place()).unwrap_or_default();
-        if stored != fresh {
+        if stored != made {
             line.differ += 1;
             line.notes.push(format!(
                 "{} is another file: {} bytes, wanted {}",
                 place().display(),
                 stored.len(),
-                fresh.len()
+                made.len()
             ));
         }
     });
-    vec![anew, replay(&fresh)]
+    vec![anew, replay(&made)]
 }
 
 /// Writes the `stdin` of `replay`.
-pub fn write() -> bool {
-    let fresh = vectors::make(SEED, SCALE);
-    std::fs::write(place(), &fresh).expect("writing the vectors");
-    println!("crates/replay/stdin: {} bytes, {} cases", fresh.len(), cases(&fresh).len());
-    true
+pub fn write() -> Ended {
+    let made = fresh();
+    std::fs::write(place(), &made).map_err(|e| format!("{}: {e}", place().display()))?;
+    println!("crates/replay/stdin: {} bytes, {} cases", made.len(), cases(&made).len());
+    Ok(End::Same)
 }

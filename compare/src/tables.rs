@@ -1,4 +1,5 @@
 //! The sizing tables, made by running the Rust at each n, against the constants in the code.
+use crate::progress::Progress;
 use crate::stored::repository;
 use crate::table::Line;
 
@@ -19,6 +20,7 @@ fn line<T: PartialEq + std::fmt::Debug>(
     make: impl FnOnce() -> Vec<T>,
 ) -> Line {
     Line::timed(name, |line| {
+        let _waiting = Progress::waiting(name);
         let (have, made) = (have(), make());
         for i in 0..made.len().max(have.len()) {
             line.count(made.get(i) == have.get(i), || {

@@ -61,7 +61,8 @@ impl Legacy {
 pub fn trailer_message(file: &[u8]) -> Option<String> {
     super::super::reader::verify_trailer(file, "point index").err().map(|e| e.to_string())
 }
-fn with_trailer(body: &[u8]) -> Vec<u8> {
+/// A body with its trailer, as the store writes an index.
+pub fn with_trailer(body: &[u8]) -> Vec<u8> {
     let mut b = body.to_vec();
     b.push(0);
     let c = crate::crc32::crc32(&b);

@@ -1,4 +1,4 @@
-//! Inputs found by `oracle hunt`: hashes that no attempt peels, or only the last; keys (big-endian bytes) whose bucket has no pilot, or a late one.
+//! Inputs found by the hunts of command.rs: hashes that no attempt peels, or only the last; keys (big-endian bytes) whose bucket has no pilot, or a late one.
 pub const EXHAUST_30: [u64; 30] = [
     0x02fa72eca5300d6a,
     0x081d1497ab235f7e,

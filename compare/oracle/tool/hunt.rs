@@ -100,10 +100,10 @@ fn trace(keys: &[Vec<u8>]) -> String {
     }
 }
 
-pub fn run(what: &str, a: &[String]) {
-    let n = |i: usize| num(&a[i]);
+pub fn run(what: &str, a: &[&str]) {
+    let n = |i: usize| num(a[i]);
     match what {
-        // oracle hunt finish SETS SEED: random key sets at many n
+        // oracle hunt-finish SETS SEED: random key sets at many n
         "finish" => {
             let mut r = Rng(n(1));
             println!(
@@ -143,7 +143,7 @@ pub fn run(what: &str, a: &[String]) {
                 println!("{m} {sets} {used:?} {:.2} {top}", sum as f64 / multi.max(1) as f64);
             }
         }
-        // oracle hunt examples: key lists for each attempt and each cause
+        // oracle hunt-examples: key lists for each attempt and each cause
         "examples" => {
             let mut r = Rng(42);
             let u = universal_pair(0x4141414141414141, 0x4242424242424242);
@@ -213,7 +213,7 @@ pub fn run(what: &str, a: &[String]) {
                 }
             }
         }
-        // oracle hunt pilot-edge P: twelve keys in one bucket of attempt 0 whose least pilot (unbounded) is exactly P
+        // oracle hunt-pilot-edge P SEED: twelve keys in one bucket of attempt 0 whose least pilot (unbounded) is exactly P
         "pilot-edge" => {
             let want = n(0) as u32;
             let mut r = Rng(n(1));
@@ -244,7 +244,7 @@ pub fn run(what: &str, a: &[String]) {
                 break;
             }
         }
-        // oracle hunt filter SETS SEED: attempts used by random hash sets
+        // oracle hunt-filter SETS SEED: attempts used by random hash sets
         "filter" => {
             let mut r = Rng(n(1));
             println!("n, sets, sets by attempt used (1 first); 0 = Positive");
@@ -265,7 +265,7 @@ pub fn run(what: &str, a: &[String]) {
                 println!("{m} {sets} {used:?}");
             }
         }
-        // oracle hunt exhaust N SECONDS SEED: n distinct hashes that no attempt of 100 peels
+        // oracle hunt-exhaust N SECONDS SEED: n distinct hashes that no attempt of 100 peels
         "exhaust" => {
             let (m, secs) = (n(0) as usize, n(1));
             match exhaust(m, Duration::from_secs(secs), n(2)) {
@@ -280,7 +280,7 @@ pub fn run(what: &str, a: &[String]) {
                 Err(best) => println!("n = {m}: best {best} of 100 attempts fail in {secs} s"),
             }
         }
-        // oracle hunt last N SECONDS SEED: n hashes that only the 100th attempt peels
+        // oracle hunt-last N SECONDS SEED: n hashes that only the 100th attempt peels
         "last" => match cover(n(0) as usize, Duration::from_secs(n(1)), n(2), 99) {
             Ok(h) => {
                 let d = rf::Filter::build(&mut h.clone()).dims().map(|d| d.3 == rf::mix(100));
@@ -292,7 +292,7 @@ pub fn run(what: &str, a: &[String]) {
             }
             Err(best) => println!("best {best}"),
         },
-        _ => println!("unknown hunt"),
+        _ => unreachable!("a hunt of command.rs"),
     }
 }
 /// Simple exhaustion for any n >= 200: a pair that collides in every position for each attempt.

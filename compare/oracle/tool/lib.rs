@@ -33,11 +33,15 @@ pub fn unhex(s: &str) -> Vec<u8> {
     assert!(s.len() % 2 == 0, "odd hex");
     (0..s.len() / 2).map(|i| u8::from_str_radix(&s[2 * i..2 * i + 2], 16).expect("hex")).collect()
 }
-pub fn num(s: &str) -> u64 {
+/// A number, decimal or with 0x in hex.
+pub fn number(s: &str) -> Option<u64> {
     match s.strip_prefix("0x") {
-        Some(x) => u64::from_str_radix(x, 16).expect("number"),
-        None => s.parse().expect("number"),
+        Some(x) => u64::from_str_radix(x, 16).ok(),
+        None => s.parse().ok(),
     }
+}
+pub fn num(s: &str) -> u64 {
+    number(s).expect("number")
 }
 /// Our generator for tests: splitmix64 of its own state (nothing of the index depends on it).
 pub struct Rng(pub u64);

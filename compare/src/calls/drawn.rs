@@ -132,7 +132,7 @@ pub fn hashes(r: &mut Rng) -> Vec<u64> {
         _ => r.below(5000),
     };
     let low = r.next();
-    let mut h: Vec<u64> = (0..n).map(|i| if low % 4 == 0 { low.wrapping_add(i) } else { r.next() }).collect();
+    let mut h: Vec<u64> = (0..n).map(|i| if low.is_multiple_of(4) { low.wrapping_add(i) } else { r.next() }).collect();
     if n > 1 && r.below(12) == 0 {
         h[0] = h[n as usize - 1];
     }

@@ -1,6 +1,7 @@
-//! `compare filter FILTER_FILE [HASHES_FILE]`: a stored filter on both sides.
-use super::files;
+//! `beside filter FILTER [HASHES]`: a stored filter on both sides.
+use super::files::{self, COMPACT, FILTER, HASHES_GO, INDEX};
 use super::report::Report;
+use super::verdict;
 use crate::progress::Progress;
 use crate::{Ended, ours, theirs};
 use oracle::Rng;
@@ -9,17 +10,22 @@ use oracle::Rng;
 const DRAWN: usize = 65_536;
 
 pub fn run(filter: &str, hashes: Option<&str>) -> Ended {
-    let bytes = files::read(filter, 0)?;
+    let bytes = files::read(filter)?;
+    files::none_of(filter, &bytes, &[INDEX, COMPACT], "a filter")?;
+    if !FILTER.resembles(&bytes) && !bytes.is_empty() && bytes.len().is_multiple_of(8) {
+        let why = "it does not begin with KIBANFL2, as a filter does, and holds a whole number of u64";
+        return Err(format!("{filter}: {why}; {HASHES_GO}"));
+    }
     let (hashes, from) = match hashes {
         Some(path) => (files::hashes(path)?, path),
         None => (drawn(DRAWN, &[]), "drawn"),
     };
     println!("{filter}: {} bytes; {} hashes, {from}", bytes.len(), hashes.len());
     let mut report = Report::default();
-    read(&mut report, &bytes);
+    let number = read(&mut report, &bytes);
     let maybe = ask(&mut report, &bytes, &hashes);
     report.part("ask", &format!("{maybe} of {} maybe", hashes.len()));
-    Ok(report.end())
+    Ok(report.end(verdict::filter(&bytes, number)))
 }
 
 /// So many hashes that are not among these, which are sorted; always the same ones.
@@ -28,8 +34,8 @@ pub fn drawn(n: usize, members: &[u64]) -> Vec<u64> {
     std::iter::repeat_with(|| r.next()).filter(|h| members.binary_search(h).is_err()).take(n).collect()
 }
 
-/// The filter read on both sides: its fields, or 15.
-pub fn read(report: &mut Report, bytes: &[u8]) {
+/// The filter read on both sides: its fields, or 15. The number of ours.
+pub fn read(report: &mut Report, bytes: &[u8]) -> u64 {
     let mut answer = [0; 6];
     let ours = match ours::filter_read(bytes, &mut answer) {
         0 => Ok(answer),
@@ -44,6 +50,7 @@ pub fn read(report: &mut Report, bytes: &[u8]) {
         }
     };
     report.part("read", &said);
+    ours.err().unwrap_or(0)
 }
 
 /// Each hash asked on both sides, by itself and all at once; how many are maybe.

@@ -1,5 +1,6 @@
-//! `compare hashes HASHES_FILE`: a filter of these hashes, built, read and asked on both sides.
+//! `beside hashes HASHES`: a filter of these hashes, built, read and asked on both sides.
 use super::report::Report;
+use super::verdict::Verdict;
 use super::{files, filter};
 use crate::{Ended, ours, theirs};
 use oracle::paper;
@@ -18,7 +19,7 @@ pub fn run(path: &str) -> Ended {
     let maybe = filter::ask(&mut report, &bytes, &others);
     let rate = 100.0 * maybe as f64 / others.len().max(1) as f64;
     report.part("ask, others", &format!("{maybe} of {} maybe, falsely: {rate:.2} of 100", others.len()));
-    Ok(report.end())
+    Ok(report.end(Verdict::same("both sides build the same filter of these hashes, and it answers alike")))
 }
 
 /// The hashes sorted on both sides; the Rust's.

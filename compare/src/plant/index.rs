@@ -1,7 +1,9 @@
-//! `compare index INDEX_FILE DATA_FILE`: an index of the plant on both sides.
-use super::lookups::{self, Sides};
+//! `beside index INDEX DATA [LIMIT]`: an index of the plant on both sides.
+use super::files::{self, COMPACT, FILTER, INDEX};
+use super::lookups::{self, Asked, Sides};
 use super::report::Report;
-use super::{files, keys};
+use super::{keys, verdict};
+use crate::progress::Progress;
 use crate::{Ended, ours, theirs};
 use oracle::{paper, rp};
 use std::sync::Arc;
@@ -9,34 +11,50 @@ use std::sync::Arc;
 /// The five bytes behind a body: a zero and four check bytes.
 const TRAILER: usize = 5;
 
-pub fn run(index: &str, data: &str) -> Ended {
-    let file = files::read(index, TRAILER)?;
-    let data: Arc<[u8]> = files::read(data, 0)?.into();
+pub fn run(index: &str, data: &str, limit: u64) -> Ended {
+    let (file, data) = read(index, data)?;
     let body = &file[..file.len() - TRAILER];
     println!("{index}: a body of {} bytes and its trailer; data of {} bytes", body.len(), data.len());
-    trailer(&file);
     let mut report = Report::default();
+    let trailer = trailer(&mut report, &file);
+    let waiting = Progress::waiting("validate");
     let sides = Sides::new(body, &data);
     validate(&mut report, &sides);
+    drop(waiting);
     let arena = keys::arena_of(body).unwrap_or_default();
-    let all = keys::all(arena);
-    gets(&mut report, &sides, &all);
-    if !arena.is_empty() {
-        finish(&mut report, &sides, arena, &all, &data);
-    }
-    listing(&mut report, &sides);
-    Ok(report.end())
+    let asked = Asked { keys: keys::all(arena), limit };
+    gets(&mut report, &sides, &asked);
+    let fresh = if arena.is_empty() { 0 } else { finish(&mut report, &sides, arena, &asked, &data) };
+    let limits = if limit == u64::MAX { &[u64::MAX][..] } else { &[u64::MAX, limit] };
+    limits.iter().for_each(|&limit| listing(&mut report, &sides, limit));
+    Ok(report.end(match sides.rust.number {
+        0 => verdict::accepted(trailer, fresh),
+        number => verdict::refused(&file, number, trailer, ours::validate(&file, data.len() as u64) == 0),
+    }))
 }
 
-/// What the Rust says of the trailer, which this code leaves to the host; and of a form that is not carried over.
-fn trailer(file: &[u8]) {
-    match rp::trailer_message(file) {
-        None => println!("trailer: the Rust accepts it"),
-        Some(why) => println!("trailer: the Rust refuses it ({why}); below, the body stands before a right one"),
+/// Both files, unless they are others than these two, as far as their first bytes tell.
+fn read(index: &str, data: &str) -> Result<(Vec<u8>, Arc<[u8]>), String> {
+    let (file, values) = (files::read(index)?, files::read(data)?);
+    if INDEX.has(&values) && !INDEX.has(&file) {
+        let order = "the index is named first, then the data";
+        return Err(format!("{index} and {data} are swapped: the second begins with {}; {order}", INDEX.magic));
     }
-    if file.starts_with(b"KIBANPH3") {
-        println!("KIBANPH3 is the compact form, which is not carried over (docs/DIFFERENCES.md)");
+    files::none_of(index, &file, &[FILTER], "the index, which is named first")?;
+    files::none_of(data, &values, &[INDEX, COMPACT, FILTER], "the data, which is named second")?;
+    if file.len() < TRAILER {
+        return Err(format!("{index}: {} bytes; the trailer of an index alone has {TRAILER}", file.len()));
     }
+    Ok((file, values.into()))
+}
+
+/// The trailer on both sides: the package's answer, and what the Rust has against it.
+fn trailer(report: &mut Report, file: &[u8]) -> Option<String> {
+    let theirs = rp::trailer_message(file);
+    report.equal("trailer accepted", wobarelind::body_of(file).is_ok(), theirs.is_none());
+    let said = theirs.as_ref().map_or("accepted".into(), |why| format!("refused ({why}); below stands the body alone"));
+    report.part("trailer", &said);
+    theirs
 }
 
 fn validate(report: &mut Report, sides: &Sides) {
@@ -46,8 +64,9 @@ fn validate(report: &mut Report, sides: &Sides) {
     report.part("validate", &said);
 }
 
-fn gets(report: &mut Report, sides: &Sides, all: &[keys::Key]) {
-    let [found, nothing, damage] = lookups::compare(report, sides, all);
+fn gets(report: &mut Report, sides: &Sides, asked: &Asked) {
+    let [put, withdrawn, nothing, damage] = lookups::compare(report, sides, asked);
+    let all = &asked.keys;
     let versions: u64 = all.iter().map(|key| key.versions).sum();
     let many = all.iter().filter(|key| key.versions > keys::VERSIONS).count();
     let bound = match many {
@@ -55,7 +74,8 @@ fn gets(report: &mut Report, sides: &Sides, all: &[keys::Key]) {
         n => format!("; of {n} keys only the first and last {} versions gave limits", keys::VERSIONS / 2),
     };
     let read = format!("{} keys of {versions} versions read", all.len());
-    report.part("get", &format!("{read}; {found} found, {nothing} nothing, {damage} times 14{bound}"));
+    let met = format!("{put} put, {withdrawn} withdrawn, {nothing} nothing, {damage} times 14");
+    report.part("get", &format!("{read}; {met}{bound}"));
     if sides.rust.number == 22 {
         println!("    a direct pilot lies past n: where the Rust reads on, 14 is document 01's (docs/DIFFERENCES.md)");
     }
@@ -63,6 +83,7 @@ fn gets(report: &mut Report, sides: &Sides, all: &[keys::Key]) {
 
 /// What finish makes of an arena, lent all that it needs.
 fn finished(arena: &[u8]) -> (Result<Vec<u8>, u64>, Result<Vec<u8>, u64>) {
+    let _waiting = Progress::waiting("fresh finish");
     let n = paper::walk(arena, 0, None, None, &mut |_, _| true).map_or(0, |w| w.0.len());
     let (mut wide, mut narrow) = (vec![0; 2 * n], vec![0; 8 * n + 8]);
     let mut out = vec![0; 32 + 4 * n.div_ceil(3) + 12 * n + arena.len()];
@@ -73,8 +94,8 @@ fn finished(arena: &[u8]) -> (Result<Vec<u8>, u64>, Result<Vec<u8>, u64>) {
     (if number == 0 { Ok(out) } else { Err(number) }, theirs)
 }
 
-/// A fresh finish of the arena: the same bytes on both sides, and, if the file was accepted, the same answers as the file's.
-fn finish(report: &mut Report, file: &Sides, arena: &[u8], all: &[keys::Key], data: &Arc<[u8]>) {
+/// A fresh finish of the arena: the same bytes on both sides, and, if the file was accepted, the same answers as the file's. Its number.
+fn finish(report: &mut Report, file: &Sides, arena: &[u8], asked: &Asked, data: &Arc<[u8]>) -> u64 {
     let (ours, theirs) = finished(arena);
     report.ask(ours == theirs, || differing(&ours, &theirs));
     let made = match &ours {
@@ -87,13 +108,14 @@ fn finish(report: &mut Report, file: &Sides, arena: &[u8], all: &[keys::Key], da
         Ok(body) => format!("another body than the file's: {} (docs/DIFFERENCES.md, 1)", regions(body, file.body)),
     };
     report.part("fresh finish", &made);
-    if let Ok(body) = ours
+    if let Ok(body) = &ours
         && body != file.body
         && file.rust.number == 0
     {
-        lookups::compare_fresh(report, file, &Sides::new(&body, data), all);
+        lookups::compare_fresh(report, file, &Sides::new(body, data), asked);
         report.part("get on the fresh body", "the answers of the file's body");
     }
+    ours.err().unwrap_or(0)
 }
 
 /// How many of the seed, the pilots and the slots are others in two accepted bodies of one arena.
@@ -121,17 +143,17 @@ fn differing(ours: &Result<Vec<u8>, u64>, theirs: &Result<Vec<u8>, u64>) -> Stri
     format!("finish: ours {}, the Rust {}{}", told(ours), told(theirs), at.unwrap_or_default())
 }
 
-/// The listing at limit 2^64 - 1, against the text rendered from the Rust's answers.
-fn listing(report: &mut Report, sides: &Sides) {
+/// The listing at a limit, against the text rendered from the Rust's answers.
+fn listing(report: &mut Report, sides: &Sides, limit: u64) {
     let length = sides.data.len() as u64;
-    let input = [&u64::MAX.to_le_bytes()[..], &length.to_le_bytes(), sides.body].concat();
+    let input = [&limit.to_le_bytes()[..], &length.to_le_bytes(), sides.body].concat();
     if input.len() > 65_536 {
-        return println!("listing: left out, its input would have {} bytes, over 65,536", input.len());
+        return println!("listing: left out at limit {limit}, its input would have {} bytes, over 65,536", input.len());
     }
     let (mut out, mut size) = (vec![0; 131_072], [0]);
     let number = ours::listing(&input, &mut out, &mut size);
     let ours = String::from_utf8_lossy(&out[..size[0] as usize]).into_owned();
     let first = ours.lines().next().unwrap_or_default().to_string();
-    report.equal("listing", (number, ours), (0, sides.rust.listing(u64::MAX)));
+    report.equal("listing", (number, ours), (0, sides.rust.listing(limit)));
     report.part("listing", &first);
 }

@@ -44,10 +44,10 @@ pub fn all(arena: &[u8]) -> Vec<Key<'_>> {
 }
 
 impl Key<'_> {
-    /// None, 0, 2^64 - 1, and each of the sequences with its neighbours.
-    pub fn limits(&self) -> Vec<Option<u64>> {
+    /// None, 0, 2^64 - 1, the limit that is given, and each of the sequences with its neighbours.
+    pub fn limits(&self, given: u64) -> Vec<Option<u64>> {
         let around = self.sequences.iter().flat_map(|&s| [s.saturating_sub(1), s, s.saturating_add(1)]);
-        let mut limits: Vec<u64> = [0, u64::MAX].into_iter().chain(around).collect();
+        let mut limits: Vec<u64> = [0, u64::MAX, given].into_iter().chain(around).collect();
         limits.sort_unstable();
         limits.dedup();
         std::iter::once(None).chain(limits.into_iter().map(Some)).collect()

@@ -13,6 +13,12 @@ pub struct Sides<'a> {
     pub rust: Reader<'a>,
 }
 
+/// What is asked for: the keys of a body, and a limit for each beside those around its sequences.
+pub struct Asked<'a> {
+    pub keys: Vec<Key<'a>>,
+    pub limit: u64,
+}
+
 /// Keys that are asked for whatever the body holds.
 const STRAYS: [&[u8]; 2] = [b"", b"KIBANPH2"];
 
@@ -57,25 +63,26 @@ fn told(got: Got) -> String {
 }
 
 /// Each question: the keys with their limits, then those beside them and the strays without one.
-fn questions(keys: &[Key], mut ask: impl FnMut(&[u8], Option<u64>)) {
+fn questions(asked: &Asked, mut ask: impl FnMut(&[u8], Option<u64>)) {
     STRAYS.iter().for_each(|key| ask(key, None));
-    let progress = Progress::new("keys looked up", keys.len() as u64);
-    for key in keys {
-        key.limits().into_iter().for_each(|limit| ask(key.bytes, limit));
+    let progress = Progress::new("keys looked up", asked.keys.len() as u64);
+    for key in &asked.keys {
+        key.limits(asked.limit).into_iter().for_each(|limit| ask(key.bytes, limit));
         key.neighbours().iter().for_each(|beside| ask(beside, None));
         progress.step();
     }
 }
 
-/// The body's answers on both sides; how many were found, nothing and 14.
-pub fn compare(report: &mut Report, sides: &Sides, keys: &[Key]) -> [u64; 3] {
-    let mut met = [0; 3];
-    questions(keys, |key, limit| {
+/// The body's answers on both sides; how many were a put, withdrawn, nothing and 14.
+pub fn compare(report: &mut Report, sides: &Sides, asked: &Asked) -> [u64; 4] {
+    let mut met = [0; 4];
+    questions(asked, |key, limit| {
         let theirs = sides.rust.get(key, limit);
         met[match theirs {
-            Ok(_) => 0,
-            Err(1) => 1,
-            Err(_) => 2,
+            Ok(([1, ..], _)) => 0,
+            Ok(_) => 1,
+            Err(1) => 2,
+            Err(_) => 3,
         }] += 1;
         sides.ask(report, "get", key, limit, &theirs);
     });
@@ -83,8 +90,8 @@ pub fn compare(report: &mut Report, sides: &Sides, keys: &[Key]) -> [u64; 3] {
 }
 
 /// A fresh body's answers: on both sides those that the Rust gives on the file's.
-pub fn compare_fresh(report: &mut Report, file: &Sides, fresh: &Sides, keys: &[Key]) {
-    questions(keys, |key, limit| {
+pub fn compare_fresh(report: &mut Report, file: &Sides, fresh: &Sides, asked: &Asked) {
+    questions(asked, |key, limit| {
         let theirs = file.rust.get(key, limit);
         fresh.ask(report, "get on the fresh body", key, limit, &theirs);
         report.equal("the Rust's get, fresh body and file", fresh.rust.get(key, limit), theirs);

@@ -1,4 +1,6 @@
-//! What a command prints: a line for each part with its questions, the first three differences in full, and the sum.
+//! What a command prints: a line for each part with its questions, the first three differences in full, the sum, and the verdict.
+use super::verdict::Verdict;
+use crate::End;
 use std::fmt::Debug;
 
 #[derive(Default)]
@@ -29,10 +31,12 @@ impl Report {
         println!("{name:<24} {questions:>9} questions, {differ} differ; {note}");
         self.told = (self.questions, self.differ);
     }
-    /// Prints the differences and the last line; whether there were none.
-    pub fn end(self) -> bool {
+    /// Prints the differences, the sum, and as the last line what it means: the verdict, unless something differs.
+    pub fn end(self, verdict: Verdict) -> End {
         self.first.iter().for_each(|difference| println!("differs: {difference}"));
         println!("{} questions, {} differ", self.questions, self.differ);
-        self.differ == 0
+        let Verdict { end, words } = if self.differ == 0 { verdict } else { Verdict::differs() };
+        println!("{words}");
+        end
     }
 }

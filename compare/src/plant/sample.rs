@@ -1,5 +1,5 @@
-//! `compare sample DIR [KEYS]`: a plant's files to try the tool on, made by the old Rust.
-use crate::Ended;
+//! `beside sample DIR [KEYS]`: a plant's files to try the tool on, made by the old Rust. sample/ stores those of the small plant.
+use crate::{End, Ended};
 use oracle::{Kind, Rng, rf, rp};
 use std::path::Path;
 
@@ -37,8 +37,8 @@ fn drawn(keys: u64) -> Vec<Wash> {
     (0..keys).map(wash).collect()
 }
 
-/// The index with its trailer, the data, and a hash for each key.
-fn files(washes: &[Wash]) -> Result<(Vec<u8>, Vec<u8>, Vec<u64>), String> {
+/// The index with its trailer, and the data.
+fn files(washes: &[Wash]) -> Result<(Vec<u8>, Vec<u8>), String> {
     let (mut builder, mut data) = (rp::Legacy::new(), Vec::new());
     for (key, versions) in washes {
         for (i, (sequence, value)) in versions.iter().enumerate() {
@@ -48,8 +48,14 @@ fn files(washes: &[Wash]) -> Result<(Vec<u8>, Vec<u8>, Vec<u64>), String> {
             data.extend(bytes);
         }
     }
-    let hashes = washes.iter().map(|(key, _)| rp::hash(key.as_bytes(), 0)).collect();
-    Ok((builder.finish_file()?, data, hashes))
+    Ok((builder.finish_file()?, data))
+}
+
+/// Drawn numbers that stand for the store's XXH3 of each key, which is what its filters take. That hash is not among the given files, and
+/// the index's own (`rp::hash`) is another. Drawn from where `filter::drawn`, which draws the hashes that are no members, does not start.
+fn hashes(keys: usize) -> Vec<u64> {
+    let mut r = Rng(!(keys as u64));
+    (0..keys).map(|_| r.next()).collect()
 }
 
 fn write(dir: &str, name: &str, bytes: &[u8]) -> Result<(), String> {
@@ -64,11 +70,12 @@ pub fn run(dir: &str, keys: u64) -> Ended {
     if keys > 65_536 {
         return Err(format!("{keys} keys: a sample has at most 65,536"));
     }
-    let (index, data, mut hashes) = files(&if keys == 0 { small() } else { drawn(keys) })?;
+    let washes = if keys == 0 { small() } else { drawn(keys) };
+    let ((index, data), mut hashes) = (files(&washes)?, hashes(washes.len()));
     std::fs::create_dir_all(dir).map_err(|e| format!("{dir}: {e}"))?;
     write(dir, "wash.idx", &index)?;
     write(dir, "wash.dat", &data)?;
     write(dir, "wash.hashes", &hashes.iter().flat_map(|h| h.to_le_bytes()).collect::<Vec<u8>>())?;
     write(dir, "wash.filter", &rf::Filter::build(&mut hashes).encode())?;
-    Ok(true)
+    Ok(End::Same)
 }

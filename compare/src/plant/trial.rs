@@ -1,34 +1,54 @@
-//! The tool itself, run as its user runs it: on the samples, on damaged copies of them, and on files that it can't take.
+//! The tool itself, run as its user runs it: on the samples, on damaged copies of them, on files that it can't take, and on wrong words.
+use crate::numbers;
+use crate::progress::Progress;
 use crate::stored::repository;
 use crate::table::Line;
+use oracle::{paper, rp};
 use std::path::{Path, PathBuf};
 use std::process::{Command, Output};
 
 /// The keys of the larger sample.
 const KEYS: &str = "5000";
+/// The files of a sample, in the order in which the functions below take them.
+const FILES: [&str; 4] = ["wash.idx", "wash.dat", "wash.hashes", "wash.filter"];
 
 fn tool(arguments: &[&str]) -> Option<Output> {
     Command::new(std::env::current_exe().ok()?).args(arguments).output().ok()
 }
 
-/// Runs the tool on files; it has to end with 0 and to say that of its questions none differs.
-fn same(line: &mut Line, arguments: &[&str]) {
-    let output = tool(arguments);
-    let text = output.as_ref().map_or(String::new(), |o| String::from_utf8_lossy(&o.stdout).into_owned());
-    let last: Vec<&str> = text.lines().last().unwrap_or_default().split(' ').collect();
-    let questions = match last[..] {
-        [questions, "questions,", "0", "differ"] => questions.parse().unwrap_or(0),
-        _ => 0,
-    };
-    *line.numbers.entry(0).or_insert(0) += questions;
-    let fine = questions > 0 && output.is_some_and(|o| o.status.code() == Some(0));
-    line.count(fine, || format!("compare {}: {text}", arguments.join(" ")));
+/// A file's path, which is text.
+fn path(dir: &Path, name: &str) -> String {
+    dir.join(name).to_string_lossy().into_owned()
 }
 
-/// The tool has to end with 2 and say why, and not by a panic.
-fn refused(line: &mut Line, arguments: &[&str]) {
-    let fine = tool(arguments).is_some_and(|o| o.status.code() == Some(2) && !o.stderr.is_empty());
-    line.count(fine, || format!("compare {} does not end with 2", arguments.join(" ")));
+/// The number of questions, if the line before the last is their sum and says that none differs.
+fn questions(text: &str) -> Option<u64> {
+    let sum: Vec<&str> = text.lines().rev().nth(1)?.split(' ').collect();
+    match sum[..] {
+        [questions, "questions,", "0", "differ"] => questions.parse().ok(),
+        _ => None,
+    }
+}
+
+/// Runs the tool on files: of its questions none may differ, and it has to end with one of these codes and a verdict that has these words.
+fn alike(line: &mut Line, arguments: &[&str], codes: &[i32], words: &str) {
+    let output = tool(arguments);
+    let text = output.as_ref().map_or(String::new(), |o| String::from_utf8_lossy(&o.stdout).into_owned());
+    let asked = questions(&text).unwrap_or(0);
+    *line.numbers.entry(0).or_insert(0) += asked;
+    let code = output.and_then(|o| o.status.code());
+    let told = text.lines().last().is_some_and(|verdict| verdict.contains(words));
+    let fine = asked > 0 && told && code.is_some_and(|code| codes.contains(&code));
+    line.count(fine, || format!("beside {}: {codes:?} and {words:?} wanted, {code:?}: {text}", arguments.join(" ")));
+}
+
+/// The tool has to end with 2, to say these words, and to print nothing else.
+fn stopped(line: &mut Line, arguments: &[&str], words: &str) {
+    let output = tool(arguments);
+    let text = output.as_ref().map_or(String::new(), |o| String::from_utf8_lossy(&o.stderr).into_owned());
+    let told = text.starts_with("beside: ") && text.contains(words);
+    let fine = told && output.is_some_and(|o| o.status.code() == Some(2) && o.stdout.is_empty());
+    line.count(fine, || format!("beside {}: 2 and {words:?} wanted: {text}", arguments.join(" ")));
 }
 
 /// Places of an index file: so many in the header, the pilots, the slots and the arena, and the trailer.
@@ -49,76 +69,172 @@ fn damaged<'a>(file: &'a [u8], places: &'a [usize]) -> impl Iterator<Item = Vec<
     places.iter().flat_map(move |&at| [changed(at, 1), changed(at, 128), file[..at].to_vec()])
 }
 
-/// Damaged copies of a file, each written in place of the one before and run.
-fn run_damaged(line: &mut Line, file: &Path, places: &[usize], run: impl Fn(&mut Line, &str)) {
+/// Damaged copies of a file of at least so many bytes, each written in place of the one before and run.
+fn run_damaged(line: &mut Line, file: &str, least: usize, places: &[usize], run: impl Fn(&mut Line, &str)) {
     let whole = std::fs::read(file).unwrap_or_default();
-    let copy = file.with_extension("damaged");
+    let copy = format!("{file}.damaged");
     for bytes in damaged(&whole, places) {
-        let least = if file.extension().is_some_and(|e| e == "idx") { 5 } else { 0 };
-        let written = bytes.len() >= least && std::fs::write(&copy, bytes).is_ok();
-        if written {
-            run(line, &copy.to_string_lossy());
+        if bytes.len() >= least && std::fs::write(&copy, bytes).is_ok() {
+            run(line, &copy);
         }
     }
 }
 
-/// A sample: its files whole, then its index and its filter damaged at so many places of each region.
+/// A sample: its files whole, then its index and its filter damaged at so many places of each region. The store's trailer shows every
+/// damage of an index; a filter's cells may be changed and still be a filter.
 fn sample(line: &mut Line, dir: &Path, keys: &[&str], each: usize) {
-    let path = |name: &str| dir.join(name).to_string_lossy().into_owned();
-    let made = tool(&[&["sample", &path("")], keys].concat());
-    line.count(made.is_some_and(|o| o.status.success()), || "compare sample does not end with 0".into());
-    let [index, data, hashes, filter] = ["wash.idx", "wash.dat", "wash.hashes", "wash.filter"].map(path);
-    same(line, &["index", &index, &data]);
-    same(line, &["index", &index, &hashes]);
-    same(line, &["hashes", &hashes]);
-    same(line, &["filter", &filter]);
-    same(line, &["filter", &filter, &hashes]);
+    let made = tool(&[&["sample", &path(dir, "")], keys].concat());
+    line.count(made.is_some_and(|o| o.status.success()), || "beside sample does not end with 0".into());
+    let [index, data, hashes, filter] = FILES.map(|name| path(dir, name));
+    alike(line, &["index", &index, &data], &[0], "accept this index, and answer alike");
+    alike(line, &["index", &index, &hashes], &[3], "refuse this file with 29");
+    alike(line, &["hashes", &hashes], &[0], "build the same filter");
+    alike(line, &["filter", &filter], &[0], "accept this filter");
+    alike(line, &["filter", &filter, &hashes], &[0], "accept this filter");
     let file = std::fs::read(&index).unwrap_or_default();
     let at = if file.len() > 37 { places(&file, each) } else { Vec::new() };
-    run_damaged(line, Path::new(&index), &at, |line, copy| same(line, &["index", copy, &data]));
+    run_damaged(line, &index, 5, &at, |line, copy| alike(line, &["index", copy, &data], &[3], "both sides"));
     let at: Vec<usize> = (0..49).step_by(49 / each.min(49)).collect();
-    run_damaged(line, Path::new(&filter), &at, |line, copy| same(line, &["filter", copy, &hashes]));
+    run_damaged(line, &filter, 0, &at, |line, copy| alike(line, &["filter", copy, &hashes], &[0, 3], "this filter"));
 }
 
-/// An accepted body that finish does not make: one key, its pilot another.
-fn other_pilot(line: &mut Line, dir: &Path) {
-    let path = |name: &str| dir.join(name).to_string_lossy().into_owned();
-    _ = tool(&["sample", &path(""), "1"]);
-    let mut file = std::fs::read(path("wash.idx")).unwrap_or_default();
-    if file.len() > 36 {
-        file[32..36].copy_from_slice(&5u32.to_le_bytes());
+/// The files that the repository stores are what the old Rust writes now.
+fn stored(line: &mut Line, dir: &Path) {
+    for name in FILES {
+        let (made, kept) =
+            (std::fs::read(dir.join(name)).ok(), std::fs::read(repository().join("sample").join(name)).ok());
+        line.count(made.is_some() && made == kept, || format!("sample/{name} is not what the old Rust writes"));
     }
-    _ = std::fs::write(path("wash.idx"), file);
-    same(line, &["index", &path("wash.idx"), &path("wash.dat")]);
 }
 
-/// No file, a file under five bytes, hashes cut short, no such command, an argument too few.
+/// The listing at a limit, and words that are none.
+fn limits(line: &mut Line, dir: &Path) {
+    let [index, data, ..] = FILES.map(|name| path(dir, name));
+    for limit in ["none", "0", "20", "18446744073709551615", ""] {
+        alike(line, &["index", &index, &data, limit], &[0], "accept this index");
+    }
+    for limit in ["x", "-1", "+1", "1.5", "18446744073709551616"] {
+        stopped(line, &["index", &index, &data, limit], "LIMIT");
+    }
+}
+
+/// An index file of one key and its data; the file is changed, if it could be made.
+fn changed(dir: &Path, change: impl FnOnce(Vec<u8>) -> Vec<u8>) -> [String; 2] {
+    _ = tool(&["sample", &path(dir, ""), "1"]);
+    let [index, data, ..] = FILES.map(|name| path(dir, name));
+    let file = std::fs::read(&index).unwrap_or_default();
+    if file.len() > 37 {
+        _ = std::fs::write(&index, change(file));
+    }
+    [index, data]
+}
+
+/// Files that no finish makes: another pilot, which is accepted; the compact form's first bytes; a slot that leads elsewhere, behind a right
+/// trailer; no trailer, a wrong one, and a file cut by more.
+fn others(line: &mut Line, dir: &Path) {
+    let body = |file: Vec<u8>| file[..file.len() - 5].to_vec();
+    let with = |at: usize, bytes: &'static [u8]| {
+        move |file: Vec<u8>| {
+            let mut body = body(file);
+            body[at..at + bytes.len()].copy_from_slice(bytes);
+            rp::with_trailer(&body)
+        }
+    };
+    let mut run = |code: i32, words: &str, [index, data]: [String; 2]| {
+        alike(line, &["index", &index, &data], &[code], words);
+    };
+    run(0, "accept this index, and answer alike", changed(dir, with(32, &[5, 0, 0, 0])));
+    run(3, "compact form is not carried over", changed(dir, with(0, b"KIBANPH3")));
+    let told = format!("both sides refuse this file with {} Its trailer is right", numbers::told(26));
+    run(3, &told, changed(dir, with(36, &[9])));
+    run(3, "the trailer is missing", changed(dir, body));
+    run(3, "refuse the file for its trailer", changed(dir, |file| [body(file), vec![0; 5]].concat()));
+    run(3, "cut or changed since", changed(dir, |file| file[..file.len() - 6].to_vec()));
+}
+
+/// An accepted index of two keys that finish can't place: they have equal hashes under each of the eight seeds, and not under this one.
+fn unplaced() -> Option<Vec<u8>> {
+    let keys: [&[u8]; 2] = [b"L150A-20241103-a", b"L150U-20241103-A"];
+    let mut builder = rp::Legacy::new();
+    keys.iter().try_for_each(|key| builder.add(oracle::Kind::Put, key, b"", 1, true).map(|_| ())).ok()?;
+    let slots = |(seed, pilot)| keys.map(|key| rp::position(rp::hash(key, seed), pilot, 2));
+    let (seed, pilot) = (0..1_000u64).map(|i| (i / 10, (i % 10) as u32)).find(|&at| slots(at)[0] != slots(at)[1])?;
+    let slot = |i: usize| {
+        let print = paper::fingerprint(rp::hash(keys[i], seed)) as u32;
+        [&(builder.heads()[i] as u64).to_le_bytes()[..], &print.to_le_bytes()].concat()
+    };
+    let [first, second] = if slots((seed, pilot)) == [0, 1] { [0, 1] } else { [1, 0] };
+    let sizes = [&2u32.to_le_bytes()[..], &1u32.to_le_bytes(), &60u64.to_le_bytes(), &pilot.to_le_bytes()].concat();
+    let head = [&b"KIBANPH2"[..], &seed.to_le_bytes(), &sizes].concat();
+    Some(rp::with_trailer(&[head, slot(first), slot(second), builder.arena().to_vec()].concat()))
+}
+
+/// Files given in another's place.
+fn misplaced(line: &mut Line, dir: &Path) {
+    let [index, data, hashes, filter] = &FILES.map(|name| path(dir, name));
+    stopped(line, &["index", data, index], "swapped");
+    stopped(line, &["index", hashes, index], "swapped");
+    stopped(line, &["index", index, index], "this is an index");
+    stopped(line, &["index", index, filter], "this is a filter");
+    stopped(line, &["index", filter, data], "beside filter");
+    stopped(line, &["hashes", index], "make compare-files");
+    stopped(line, &["hashes", filter], "beside filter");
+    stopped(line, &["filter", index], "make compare-files");
+    stopped(line, &["filter", hashes], "make compare-hashes");
+    stopped(line, &["filter", hashes, filter], "make compare-hashes");
+    stopped(line, &["filter", filter, index], "make compare-files");
+    alike(line, &["index", hashes, data], &[3], "make compare-hashes");
+    alike(line, &["index", data, data], &[3], "It does not begin with KIBANPH2.");
+    alike(line, &["filter", data], &[3], "It does not begin with KIBANFL2.");
+}
+
+/// No file, a file under five bytes, hashes cut short, no such command, words too few or no numbers.
 fn refusals(line: &mut Line, dir: &Path) {
-    let path = |name: &str| dir.join(name).to_string_lossy().into_owned();
-    _ = std::fs::write(path("short"), [0; 4]);
-    let (short, none, data) = (path("short"), path("none"), path("wash.dat"));
-    refused(line, &["index", &none, &data]);
-    refused(line, &["index", &path("wash.idx"), &none]);
-    refused(line, &["index", &short, &data]);
-    refused(line, &["index", &path(""), &data]);
-    refused(line, &["hashes", &short]);
-    refused(line, &["hashes", &none]);
-    refused(line, &["filter", &none]);
-    refused(line, &["index", &short]);
-    refused(line, &["sample", &path("wash.idx")]);
-    refused(line, &["sample", &path("more"), "65537"]);
-    refused(line, &["compare", "x"]);
-    refused(line, &["what"]);
-    refused(line, &[]);
+    let [short, none, here] = &["short", "none", ""].map(|name| path(dir, name));
+    let [index, data, ..] = &FILES.map(|name| path(dir, name));
+    _ = std::fs::write(short, [0; 4]);
+    stopped(line, &["index", none, data], none);
+    stopped(line, &["index", index, none], none);
+    stopped(line, &["index", "", data], "not named");
+    stopped(line, &["index", short, data], "4 bytes");
+    stopped(line, &["index", here, data], here);
+    stopped(line, &["hashes", short], "4 bytes");
+    stopped(line, &["hashes", none], none);
+    stopped(line, &["filter", none], none);
+    stopped(line, &["index", short], "usage");
+    stopped(line, &["sample", index], index);
+    stopped(line, &["sample", here, "65537"], "65537");
+    stopped(line, &["sample", here, "x"], "KEYS");
+    for words in [&["what"][..], &[], &["stack", "x"], &["bench", "get", "x"], &["compare", "1", "1", "", "1", "x"]] {
+        stopped(line, words, "usage");
+    }
+    stopped(line, &["compare", "x"], "SEED");
+    stopped(line, &["compare", "1", "x"], "CASES");
+    stopped(line, &["compare", "1", "1", "what"], "kiban_mix");
+    stopped(line, &["compare", "1", "1", "", "x"], "JOBS");
+    stopped(line, &["compare", "1", "1", "", "0"], "JOBS");
+    stopped(line, &["bench", "what"], "finish");
+    stopped(line, &["oracle"], "selfcheck");
+    stopped(line, &["oracle", "what"], "selfcheck");
+    stopped(line, &["oracle", "selfcheck", "1"], "SEED ROUNDS");
+    stopped(line, &["oracle", "selfcheck", "1", "x"], "ROUNDS");
+    stopped(line, &["oracle", "replay", none], none);
 }
 
 pub fn check() -> Line {
-    let dir: PathBuf = repository().join("target/plant");
+    let dir: PathBuf = repository().join("target/plant files");
     Line::timed("plant files", |line| {
-        sample(line, &dir.join("small"), &[], 16);
+        let _waiting = Progress::waiting("plant files");
+        let (small, one) = (&dir.join("small"), &dir.join("one"));
+        sample(line, small, &[], 16);
+        stored(line, small);
         sample(line, &dir.join("large"), &[KEYS], 1);
-        other_pilot(line, &dir.join("one"));
-        refusals(line, &dir.join("small"));
+        limits(line, small);
+        others(line, one);
+        let [index, data] = changed(one, |_| unplaced().unwrap_or_default());
+        alike(line, &["index", &index, &data], &[0], "both refuse a fresh finish of its records with 10");
+        misplaced(line, small);
+        refusals(line, small);
         let questions = line.numbers.remove(&0).unwrap_or(0);
         line.notes.push(format!("a case is a run of the tool; {questions} questions in all"));
     })
