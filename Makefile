@@ -84,7 +84,7 @@ compare:
 compare-files:
 	@$(NEED) $(BOTH) "INDEX=$(INDEX)" "DATA=$(DATA)" "LIMIT=$(LIMIT)"
 	@$(AGAIN) compare-tool
-	@$(BESIDE) index "$(INDEX)" "$(DATA)" $(LIMIT)
+	@$(BESIDE) index "$(INDEX)" "$(DATA)" "$(LIMIT)"
 
 compare-hashes:
 	@$(NEED) $(BOTH) "HASHES=$(HASHES)"
