@@ -39,7 +39,9 @@ $(PROGRAM): $(SOURCES)
 	@sh scripts/prove check listing
 	@touch $@
 
+# First what the library is made of: `rt check` proves crates side by side, `rt staticlib` one after the other.
 $(LIBRARY): $(SOURCES)
+	@sh scripts/prove check $$(sed -n 's/^kiban_c://p' crates.txt)
 	@sh scripts/prove staticlib kiban_c
 	@touch $@
 
