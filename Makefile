@@ -18,10 +18,12 @@ SOURCES := crates.txt $(shell find crates -name must-fail -prune -o \( -type d -
 
 NEED = sh scripts/need
 # What every comparison with the old Rust needs.
-BOTH = rt cargo "DOCS_SRC=$(DOCS_SRC)"
+BOTH = rt cargo cc "DOCS_SRC=$(DOCS_SRC)"
 AGAIN = $(MAKE) --silent --no-print-directory
-CARGO = cargo build --quiet --offline --locked --manifest-path compare/Cargo.toml --target-dir target/beside
+CARGO = cargo build --offline --locked --manifest-path compare/Cargo.toml --target-dir target/beside
 
+# A program that is written and then found wrong does not stay.
+.DELETE_ON_ERROR:
 .PHONY: help run library test wrong bindings compare-tool compare compare-files compare-hashes release bench speed stack robust vectors clean
 help:
 	@sed -n '/^## Commands/,/^## /{/^    [a-z]/p}' README.md
@@ -34,6 +36,7 @@ run:
 library:
 	@$(NEED) rt
 	@$(AGAIN) $(LIBRARY)
+	@echo "$(LIBRARY) is as new as its code"
 
 $(PROGRAM): $(SOURCES)
 	@sh scripts/prove check listing
@@ -46,6 +49,7 @@ $(LIBRARY): $(SOURCES)
 	@touch $@
 
 test:
+	@$(NEED) rt
 	@sh scripts/check-toolchain
 	@sh scripts/check-quotes && sh scripts/test-check-trust
 	@sh scripts/check-specs && sh scripts/test-check-specs
@@ -71,13 +75,12 @@ compare-tool:
 	@$(NEED) $(BOTH)
 	@$(AGAIN) $(LIBRARY)
 	@sh compare/oracle/make-oracle.sh "$(DOCS_SRC)" target/oracle
-	@echo "building $(BESIDE)"
 	@$(CARGO) --profile checked
 	@mkdir -p target/bin && cp target/beside/checked/beside $(BESIDE)
 
 # With CALL, that call alone.
 compare:
-	@$(NEED) $(BOTH) cc "CASES=$(CASES)" "SEED=$(SEED)" "JOBS=$(JOBS)"
+	@$(NEED) $(BOTH) "CASES=$(CASES)" "SEED=$(SEED)" "JOBS=$(JOBS)"
 	@$(AGAIN) compare-tool
 	@$(if $(CALL),:,sh scripts/bindings)
 	@$(BESIDE) compare $(SEED) $(CASES) "$(CALL)" $(JOBS)
@@ -98,7 +101,6 @@ release:
 	@$(NEED) $(BOTH)
 	@$(AGAIN) $(LIBRARY)
 	@sh compare/oracle/make-oracle.sh "$(DOCS_SRC)" target/oracle
-	@echo "building target/beside/release/beside"
 	@$(CARGO) --release
 
 bench: release
@@ -117,7 +119,7 @@ stack: release
 
 # The comparison, the C example and tests and the package's tests under valgrind and sanitizers.
 robust:
-	@$(NEED) $(BOTH) cc valgrind "SEED=$(SEED)" "CASES=$(ROBUST_CASES)"
+	@$(NEED) $(BOTH) valgrind "SEED=$(SEED)" "CASES=$(ROBUST_CASES)"
 	@$(AGAIN) compare-tool
 	@sh scripts/robust $(SEED) $(ROBUST_CASES)
 

@@ -1,6 +1,6 @@
 //! The KIBANPH2 point index and the Fuse8 filter of kiban, through the proved functions of `libkiban_c.a`.
 //!
-//! What each call does, its numbers and its lengths stand in `bindings/c/kiban.h`; names are kiban's. This package adds
+//! What each call does, its numbers and its lengths stand in `bindings/c/kiban.h`; names are kiban's where it has them. This package adds
 //! memory: the builder's buffer grows, and workspace and output are allocated as the calls need them. Nothing here
 //! decides anything that the proved code decides. Plain Rust, and not proved, are [`equal_hashes`] and the trailer of
 //! an index file: [`trailer()`], [`with_trailer`], [`body_of`].
@@ -52,6 +52,6 @@ mod trailer;
 pub use equal::{EqualHashes, Pair, equal_hashes};
 pub use filter::{Sizes, SstFilter};
 pub use listing::listing;
-pub use point::{Answer, Kind, LegacyIndex, PointBuilder, finish, get, validate};
+pub use point::{Answer, Kind, LegacyIndex, PointBuilder, finish, validate};
 pub use refusal::Refusal;
 pub use trailer::{BadTrailer, body_of, trailer, with_trailer};

@@ -10,7 +10,7 @@ const MOST: usize = 131_072;
 /// a key in lower-case hex (`-` for the empty key), then sequence, `put` or `tomb`, offset and length of its record
 /// within the limit; the keys rise. Left out are keys without such a record, and every key whose newest record is a
 /// tombstone, though the limit be below it. `tomb` is a key that was withdrawn within the limit and put again past it:
-/// its offset is no place of a value.
+/// it has no value, and its offset can be where the withdrawn one starts.
 ///
 /// A body that validation refuses is refused with the same number; one over 65,520 bytes with [`Refusal::INPUT`].
 ///

@@ -1,5 +1,6 @@
 //! The point index: built from records, validated, read.
 use crate::{EqualHashes, Refusal, calls, equal_hashes};
+use std::fmt;
 
 /// A record's kind.
 #[derive(Clone, Copy, Debug, PartialEq, Eq)]
@@ -131,7 +132,7 @@ pub fn validate(body: &[u8], data_length: u64) -> Result<(), Refusal> {
     calls::validate(body, data_length)
 }
 
-/// What a lookup comes to. Only a put has a value: a withdrawn figure is never handed out.
+/// What a lookup in a validated body comes to. Only a put has a value.
 #[must_use]
 #[derive(Clone, Copy, Debug, PartialEq, Eq)]
 pub enum Answer<'d> {
@@ -153,19 +154,8 @@ impl<'d> Answer<'d> {
     }
 }
 
-/// The key's record of greatest sequence within the limit, from a body that need not be validated: damage that it meets
-/// is [`Refusal::DAMAGE`]. A tombstone gives no value here either, even if damage gave it a length.
-pub fn get<'d>(body: &[u8], data: &'d [u8], key: &[u8], limit: Option<u64>) -> Result<Answer<'d>, Refusal> {
-    let Some([kind, seq, offset, length]) = calls::get(body, data, key, limit)? else {
-        return Ok(Answer::Nothing);
-    };
-    Ok(match Kind::from_u8(kind as u8).expect("proved: a record's kind is put or tombstone") {
-        Kind::Put => Answer::Put { seq, offset, value: &data[offset as usize..(offset + length) as usize] },
-        Kind::Tombstone => Answer::Withdrawn { seq },
-    })
-}
-
-/// A validated body beside its data.
+/// A validated body beside its data. There is no lookup in a body that validation refuses: it could give a figure that
+/// was withdrawn, as where a tool wrote a key's versions oldest first.
 ///
 /// An answer borrows from the data. It may outlive the index and the body, and cannot outlive the data:
 ///
@@ -180,7 +170,7 @@ pub fn get<'d>(body: &[u8], data: &'d [u8], key: &[u8], limit: Option<u64>) -> R
 /// }
 /// assert_eq!(answer.value(), Some(&[0; 8][..]));
 /// ```
-#[derive(Clone, Copy, Debug)]
+#[derive(Clone, Copy)]
 pub struct LegacyIndex<'b, 'd> {
     body: &'b [u8],
     data: &'d [u8],
@@ -196,6 +186,20 @@ impl<'b, 'd> LegacyIndex<'b, 'd> {
 
     /// The key's record of greatest sequence within the limit.
     pub fn get(&self, key: &[u8], limit: Option<u64>) -> Answer<'d> {
-        get(self.body, self.data, key, limit).expect("proved: a lookup never refuses a validated body")
+        let found = calls::get(self.body, self.data, key, limit);
+        let Some([kind, seq, offset, length]) = found.expect("proved: a lookup never refuses a validated body") else {
+            return Answer::Nothing;
+        };
+        match Kind::from_u8(kind as u8).expect("proved: a record's kind is put or tombstone") {
+            Kind::Put => Answer::Put { seq, offset, value: &self.data[offset as usize..(offset + length) as usize] },
+            Kind::Tombstone => Answer::Withdrawn { seq },
+        }
+    }
+}
+
+/// The lengths alone: the data also holds figures that were withdrawn.
+impl fmt::Debug for LegacyIndex<'_, '_> {
+    fn fmt(&self, f: &mut fmt::Formatter<'_>) -> fmt::Result {
+        write!(f, "LegacyIndex(a body of {} bytes, data of {})", self.body.len(), self.data.len())
     }
 }

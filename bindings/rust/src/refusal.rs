@@ -11,7 +11,7 @@ use std::fmt;
 /// assert_eq!(format!("{:?}", Refusal::HASHES), "refused 12: more than 65,536 hashes");
 /// assert_eq!(Refusal::from_number(12), Some(Refusal::HASHES));
 /// ```
-#[derive(Clone, Copy, PartialEq, Eq)]
+#[derive(Clone, Copy, PartialEq, Eq, PartialOrd, Ord, Hash)]
 pub struct Refusal(u64);
 
 /// Makes the refusals of a table, a row each: name, number, cause.

@@ -1,7 +1,7 @@
 //! Building an index and reading it.
 mod example;
 
-use wobarelind::{Answer, Kind, LegacyIndex, PointBuilder, Refusal, finish, get, sys, validate};
+use wobarelind::{Answer, Kind, LegacyIndex, PointBuilder, Refusal, finish, sys, validate};
 
 /// A builder with `n` keys of eight bytes, one put of eight bytes each, at rising offsets.
 fn numbered(n: u64) -> PointBuilder {
@@ -129,14 +129,25 @@ fn a_withdrawn_key_has_its_value_before_the_withdrawal_only() {
     assert_eq!(answers.map(Answer::value), [None, None, Some(&data[60..68]), None]);
 }
 
-/// Byte 141 is the length of B's tombstone, whose offset is 108. The library tells both; the package hands out none.
+/// A tombstone with a length (byte 141 is that of B's), and A's versions oldest first (those from byte 81 and 102 on): the
+/// library tells what stands there, and the package has no lookup in such bytes.
 #[test]
-fn a_tombstone_with_a_length_has_no_value_either() {
-    let (body, data) = (example::patched(141, &[8]), example::data());
-    assert_eq!(validate(&body, 116), Err(Refusal::VALUE));
-    let mut answer = [0; 4];
-    assert_eq!((sys::get(&body, &data, b"B", None, &mut answer), answer), (0, [2, 7, 108, 8]));
-    assert_eq!(get(&body, &data, b"B", None), Ok(Answer::Withdrawn { seq: 7 }));
+fn bytes_that_would_give_a_withdrawn_figure_are_no_index() {
+    let data = example::data();
+    let with_length = example::patched(141, &[8]);
+    let oldest_first = example::patched(81, &[&example::body()[102..123], &example::body()[81..102]].concat());
+    for (body, key, told) in [(with_length, b"B", [2, 7, 108, 8]), (oldest_first, b"A", [1, 4, 40, 8])] {
+        let mut answer = [0; 4];
+        assert_eq!((sys::get(&body, &data, key, None, &mut answer), answer), (0, told));
+        assert_eq!(LegacyIndex::decode(&body, &data).err(), Some(Refusal::VALUE));
+    }
+}
+
+#[test]
+fn an_index_is_shown_without_its_data() {
+    let (body, data) = (example::body(), example::data());
+    let index = LegacyIndex::decode(&body, &data).unwrap();
+    assert_eq!(format!("{index:?}"), "LegacyIndex(a body of 204 bytes, data of 116)");
 }
 
 #[test]
@@ -154,7 +165,8 @@ fn empty_keys_values_and_data_are_taken() {
     let mut builder = PointBuilder::new();
     builder.add(Kind::Put, b"", 0, 0, true).unwrap();
     let body = builder.finish_legacy().unwrap();
-    assert_eq!(get(&body, &[], b"", Some(0)), Ok(Answer::Put { seq: 0, offset: 0, value: &[] }));
+    let index = LegacyIndex::decode(&body, &[]).unwrap();
+    assert_eq!(index.get(b"", Some(0)), Answer::Put { seq: 0, offset: 0, value: &[] });
 }
 
 #[test]

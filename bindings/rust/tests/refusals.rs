@@ -1,9 +1,9 @@
-//! Every refusal that this package's calls can give, by its cause. Not met: STATE, BUFFER and WORKSPACE (they are the
-//! package's own, and fit), SELF_CHECK (proved never to be given).
+//! Every refusal that this package's calls can give, by its cause; DAMAGE by `sys::get`, since only a validated body is
+//! asked. Not met: STATE, BUFFER and WORKSPACE (they are the package's own, and fit), SELF_CHECK (proved never to be given).
 mod example;
 
 use std::collections::HashSet;
-use wobarelind::{Kind, LegacyIndex, PointBuilder, Refusal, SstFilter, finish, get, listing, validate};
+use wobarelind::{Kind, LegacyIndex, PointBuilder, Refusal, SstFilter, finish, listing, sys, validate};
 
 /// A builder that holds key B with one put of sequence 5.
 fn started() -> PointBuilder {
@@ -119,9 +119,10 @@ fn hashes_is_too_many_and_they_stay_as_they_were() {
 #[test]
 fn damage_is_a_lookup_that_meets_damage() {
     let (body, data) = (example::body(), example::data());
-    assert_eq!(get(&body[..31], &data, b"A", None), Err(Refusal::DAMAGE));
-    assert_eq!(get(&example::patched(89, &[3]), &data, b"A", None), Err(Refusal::DAMAGE));
-    assert_eq!(get(&body, &data[..115], b"C", None), Err(Refusal::DAMAGE));
+    let number = |body: &[u8], data: &[u8], key| sys::get(body, data, key, None, &mut [0; 4]);
+    let damaged = example::patched(89, &[3]);
+    let numbers = [number(&body[..31], &data, b"A"), number(&damaged, &data, b"A"), number(&body, &data[..115], b"C")];
+    assert_eq!(numbers, [Refusal::DAMAGE.number(); 3]);
 }
 
 #[test]
