@@ -3,8 +3,8 @@
  * the store and its data. Without LIMIT it is 2^64 - 1. What fails is said on standard error, with exit code 1.
  *
  *     make library
- *     cc -std=c99 -o example bindings/c/example.c target/staticlib/libkiban_c.a
- *     ./example sample/wash.idx sample/wash.dat "2026-03-02 05:40 tram 2017"
+ *     cc -std=c99 -I bindings/c -o target/example bindings/c/example.c target/staticlib/libkiban_c.a
+ *     target/example sample/wash.idx sample/wash.dat "2026-03-02 05:40 tram 2017"
  */
 #include "kiban.h"
 #include "kiban_file.h"
@@ -70,12 +70,11 @@ static int read_limit(const char *text, uint64_t *limit)
 }
 
 /* Prints a key's value within the limit, or why there is none. */
-static int print_value(const char *path, struct bytes body, struct bytes data, const char *key, uint64_t limit)
+static int print_value(const char *path, const struct kiban_index *index, const char *key, uint64_t limit)
 {
     const uint8_t *value;
     size_t length;
-    switch (kiban_value(body.at, body.length, data.at, data.length, (const uint8_t *)key, strlen(key), 1, limit, &value,
-                        &length)) {
+    switch (kiban_value(index, (const uint8_t *)key, strlen(key), 1, limit, &value, &length)) {
     case KIBAN_ANSWER_PUT:
         printf("%s: %llu bytes: ", key, (unsigned long long)length);
         fwrite(value, 1, length, stdout);
@@ -102,17 +101,17 @@ static void put_u64(uint8_t *at, uint64_t number)
 }
 
 /* Prints the listing at the limit. */
-static int print_listing(const char *path, struct bytes body, uint64_t data_length, uint64_t limit)
+static int print_listing(const char *path, const struct kiban_index *index, uint64_t limit)
 {
     static uint8_t text[KIBAN_LISTING_BYTES];
     uint64_t length = 0;
-    uint8_t *input = (uint8_t *)malloc(16 + body.length);
+    uint8_t *input = (uint8_t *)malloc(16 + index->body_length);
     if (input == NULL)
         return failed("listing", strerror(errno));
     put_u64(input, limit);
-    put_u64(input + 8, data_length);
-    memcpy(input + 16, body.at, body.length);
-    uint64_t number = kiban_listing(input, 16 + body.length, text, sizeof text, &length, 1);
+    put_u64(input + 8, index->data_length);
+    memcpy(input + 16, index->body, index->body_length);
+    uint64_t number = kiban_listing(input, 16 + index->body_length, text, sizeof text, &length, 1);
     free(input);
     if (memcmp(text, "refused ", 8) == 0)
         number = strtoull((const char *)text + 8, NULL, 10);
@@ -122,27 +121,29 @@ static int print_listing(const char *path, struct bytes body, uint64_t data_leng
     return (fflush(stdout) == 0 && !ferror(stdout)) || failed("standard output", "it took no more: the text is cut");
 }
 
-/* Tests and cuts the trailer, validates, and prints what was asked for. */
-static int show(const char *path, struct bytes index, struct bytes data, const char *key, uint64_t limit)
+/* Tests and cuts the trailer, opens the index, which validates it, and prints what was asked for. */
+static int show(const char *path, struct bytes file, struct bytes data, const char *key, uint64_t limit)
 {
-    if (!kiban_file_body(index.at, index.length, &index.length))
+    struct kiban_index index;
+    size_t body_length;
+    if (!kiban_file_body(file.at, file.length, &body_length))
         return failed(path, "no right trailer: the file is cut, damaged or no index file of the store");
-    const uint64_t number = kiban_validate(index.at, index.length, data.length);
+    const uint64_t number = kiban_open(file.at, body_length, data.at, data.length, &index);
     if (number != 0)
         return refused(path, number);
-    return print_value(path, index, data, key, limit) && print_listing(path, index, data.length, limit);
+    return print_value(path, &index, key, limit) && print_listing(path, &index, limit);
 }
 
 int main(int argc, char **argv)
 {
-    struct bytes index = {NULL, 0}, data = {NULL, 0};
+    struct bytes file = {NULL, 0}, data = {NULL, 0};
     uint64_t limit = UINT64_MAX;
     int done = 0;
     if (argc != 4 && argc != 5)
         failed("usage", "example INDEX DATA KEY [LIMIT]");
-    else if ((argc == 4 || read_limit(argv[4], &limit)) && read_file(argv[1], &index) && read_file(argv[2], &data))
-        done = show(argv[1], index, data, argv[3], limit);
-    free(index.at);
+    else if ((argc == 4 || read_limit(argv[4], &limit)) && read_file(argv[1], &file) && read_file(argv[2], &data))
+        done = show(argv[1], file, data, argv[3], limit);
+    free(file.at);
     free(data.at);
     return done ? 0 : 1;
 }

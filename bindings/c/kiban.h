@@ -2,12 +2,12 @@
  * The functions of target/staticlib/libkiban_c.a (x86-64 Linux). C99, or C++11.
  *
  *     make library
- *     cc -std=c99 -I bindings/c -o program program.c target/staticlib/libkiban_c.a
+ *     cc -std=c99 -I bindings/c -o target/example bindings/c/example.c target/staticlib/libkiban_c.a
  *
- * For a figure call kiban_value: it gives a put's value and nothing else. kiban_file.h tests and writes the trailer,
- * the last five bytes of an index file; kiban_keys.h names the keys that finish could not place. example.c reads an
- * index file and its data, test.c has every call. What is `static inline` in the three headers is plain C beside the
- * library, and not proved.
+ * For a figure open the index by kiban_open, and ask it by kiban_value: it gives a put's value and nothing else.
+ * kiban_file.h tests and writes the trailer, the last five bytes of an index file; kiban_keys.h names the keys that
+ * finish could not place. example.c reads an index file and its data, test.c has every call. What is `static inline` in
+ * the three headers is plain C beside the library, and not proved.
  *
  * Every call ends, on all bytes and numbers, and returns 0 or the number of a refusal unless its comment says
  * otherwise. A refused call changes nothing that was lent to it, but the workspace of a kiban_finish that answers 10
@@ -227,6 +227,8 @@ uint64_t kiban_validate(const uint8_t *body, size_t body_length, uint64_t data_l
  * The key's record of greatest sequence within the limit; for a figure call kiban_value. limited: 0 for no limit, and
  * limit is then not looked at. answer: KIBAN_RECORD_WORDS, written where a record is found. Returns 0 found, 1
  * nothing, 6 for the answer, or 14, which is proved never to come on a body that was validated for the data's length.
+ * On a body that kiban_validate did not accept for this data the answer may be any record of the key, a withdrawn
+ * figure too.
  *
  * Test the kind before anything is read. Of a KIBAN_PUT the value is the part of the data at that offset, of that
  * length, and lies inside the data. A KIBAN_TOMBSTONE was found too: the key was withdrawn and has no value, though
@@ -235,27 +237,47 @@ uint64_t kiban_validate(const uint8_t *body, size_t body_length, uint64_t data_l
 uint64_t kiban_get(const uint8_t *body, size_t body_length, const uint8_t *data, size_t data_length, const uint8_t *key,
                    size_t key_length, uint8_t limited, uint64_t limit, uint64_t *answer, size_t answer_length);
 
-/* What kiban_value answers. */
+/* An index that kiban_open validated, beside its data. It borrows both: they stay as they are while it is asked. */
+struct kiban_index {
+    const uint8_t *body;
+    size_t body_length;
+    const uint8_t *data;
+    size_t data_length;
+};
+
+/*
+ * Validates a body for its data, and where it is accepted fills index, for kiban_value. Otherwise index is all zero: it
+ * has no value for any key. Returns 0, or 20 to 30. Plain C over kiban_validate.
+ */
+static inline uint64_t kiban_open(const uint8_t *body, size_t body_length, const uint8_t *data, size_t data_length,
+                                  struct kiban_index *index)
+{
+    const struct kiban_index accepted = {body, body_length, data, data_length}, refused = {NULL, 0, NULL, 0};
+    const uint64_t number = kiban_validate(body, body_length, data_length);
+    *index = number == 0 ? accepted : refused;
+    return number;
+}
+
+/* What kiban_value answers. The numbers are its own: no mix-up with what kiban_get returns passes a test. */
 enum kiban_answer {
-    KIBAN_ANSWER_PUT,       /* a put: its value is given, which may have no bytes */
+    KIBAN_ANSWER_PUT = 101, /* a put: its value is given, which may have no bytes */
     KIBAN_ANSWER_WITHDRAWN, /* a tombstone: the key was withdrawn, and has no value */
     KIBAN_ANSWER_NOTHING,   /* no record within the limit */
-    KIBAN_ANSWER_DAMAGE     /* 14: validate the body for the data first, and this never comes */
+    KIBAN_ANSWER_DAMAGE     /* an index that kiban_open refused, or that was changed since */
 };
 
 /*
  * The key's value within the limit, or none. Only at KIBAN_ANSWER_PUT is there a value: *value_length bytes of the
- * data, from *value on. Otherwise *value is NULL and *value_length 0, also for a tombstone of a body that was not
- * validated. Go by the answer, for a value of no bytes in data that is NULL is NULL too. limited, limit: as in
- * kiban_get, over which this is plain C.
+ * data, from *value on. Otherwise *value is NULL and *value_length 0. Go by the answer, for a value of no bytes in data
+ * that is NULL is NULL too. index: filled by kiban_open. limited, limit: as in kiban_get, over which this is plain C.
  */
-static inline enum kiban_answer kiban_value(const uint8_t *body, size_t body_length, const uint8_t *data,
-                                            size_t data_length, const uint8_t *key, size_t key_length, uint8_t limited,
-                                            uint64_t limit, const uint8_t **value, size_t *value_length)
+static inline enum kiban_answer kiban_value(const struct kiban_index *index, const uint8_t *key, size_t key_length,
+                                            uint8_t limited, uint64_t limit, const uint8_t **value,
+                                            size_t *value_length)
 {
     uint64_t found[KIBAN_RECORD_WORDS];
-    const uint64_t got = kiban_get(body, body_length, data, data_length, key, key_length, limited, limit, found,
-                                   KIBAN_RECORD_WORDS);
+    const uint64_t got = kiban_get(index->body, index->body_length, index->data, index->data_length, key, key_length,
+                                   limited, limit, found, KIBAN_RECORD_WORDS);
     *value = NULL;
     *value_length = 0;
     if (got == KIBAN_NOTHING)
@@ -264,7 +286,7 @@ static inline enum kiban_answer kiban_value(const uint8_t *body, size_t body_len
         return KIBAN_ANSWER_DAMAGE;
     if (found[KIBAN_RECORD_KIND] != KIBAN_PUT)
         return KIBAN_ANSWER_WITHDRAWN;
-    *value = data_length == 0 ? data : data + found[KIBAN_RECORD_OFFSET];
+    *value = index->data_length == 0 ? index->data : index->data + found[KIBAN_RECORD_OFFSET];
     *value_length = found[KIBAN_RECORD_LENGTH];
     return KIBAN_ANSWER_PUT;
 }

@@ -1,8 +1,8 @@
 /*
  * test INDEX: every call of kiban.h on the example of the user's document, on slices of no elements and on washes, one
- * of them corrected and one withdrawn; kiban_value and kiban_cause; the trailer of kiban_file.h on INDEX, an index file
- * of the store; and lists of keys that finish cannot place, through kiban_keys.h. Says nothing where all is as
- * expected; else says what differs, and ends with 1.
+ * of them corrected and one withdrawn; kiban_open and kiban_value, also on versions oldest first, and kiban_cause; the
+ * trailer of kiban_file.h on INDEX, an index file of the store; and lists of keys that finish cannot place, through
+ * kiban_keys.h. Says nothing where all is as expected; else says what differs, and ends with 1.
  */
 #include "kiban_file.h"
 #include "kiban_keys.h"
@@ -13,6 +13,8 @@
 enum { KEYS = 3, RECORDS = 5, ARENA = 132, BODY = 204, DATA = 116, CELLS = 3 + 256, MOST = 65536 };
 /* The most keys of a list here, and room for the arena and the body of each. */
 enum { FEW = 4, ROOM = 512 };
+/* The bytes of a version: kind, sequence, length, offset; and where its length stands. */
+enum { VERSION = 21, VERSION_LENGTH = 9 };
 
 struct record {
     const char *key;
@@ -259,6 +261,7 @@ static void empty_key(void)
     uint64_t state[KIBAN_STATE_WORDS] = {0, 0, 0}, wide[2], answer = 0;
     uint32_t narrow[16];
     uint8_t arena[29], body[32 + 4 + 12 + 29];
+    struct kiban_index index;
     const uint8_t *value = body;
     const size_t size = sizeof body;
     size_t length = 1;
@@ -267,8 +270,8 @@ static void empty_key(void)
            KIBAN_REFUSED_WORKSPACE);
     expect("finish, no room", kiban_finish(arena, 29, NULL, 0, wide, 2, narrow, 16, &answer, 1), KIBAN_REFUSED_BUFFER);
     expect("finish", kiban_finish(arena, 29, body, size, wide, 2, narrow, 16, &answer, 1), 0);
-    expect("validate", kiban_validate(body, size, 0), 0);
-    expect("value", kiban_value(body, size, NULL, 0, NULL, 0, 0, 0, &value, &length), KIBAN_ANSWER_PUT);
+    expect("open", kiban_open(body, size, NULL, 0, &index), 0);
+    expect("value", kiban_value(&index, NULL, 0, 0, 0, &value, &length), KIBAN_ANSWER_PUT);
     holds("the data's NULL, no bytes", value == NULL && length == 0);
 }
 
@@ -283,29 +286,29 @@ static const struct record washes[] = {
     {"tram 23", KIBAN_PUT, 0, 3, 7, 3},
 };
 
-/* A body beside data. */
-struct index {
-    uint8_t body[ROOM];
-    const uint8_t *data;
-    uint64_t body_length, data_length;
-};
+/* The answers' numbers: past those of kiban_get and of every refusal. */
+static void answers(void)
+{
+    expect("put", KIBAN_ANSWER_PUT, 101);
+    expect("withdrawn", KIBAN_ANSWER_WITHDRAWN, 102);
+    expect("nothing", KIBAN_ANSWER_NOTHING, 103);
+    expect("damage", KIBAN_ANSWER_DAMAGE, 104);
+}
 
 /* Asks for a key's value; expected is the answer, and the put whose value it is, or none. */
-static void expect_value(const struct index *index, const char *key, uint8_t limited, uint64_t limit,
+static void expect_value(const struct kiban_index *index, const char *key, uint8_t limited, uint64_t limit,
                          enum kiban_answer answer, const struct record *put)
 {
-    const uint8_t *value = index->data;
-    size_t length = index->data_length;
-    expect(key, kiban_value(index->body, index->body_length, index->data, index->data_length, bytes(key), strlen(key),
-                            limited, limit, &value, &length), answer);
+    const uint8_t *value = bytes(key);
+    size_t length = strlen(key);
+    expect(key, kiban_value(index, bytes(key), strlen(key), limited, limit, &value, &length), answer);
     holds("the value's place", value == (put ? index->data + put->offset : NULL));
     expect("the value's length", length, put ? put->length : 0);
 }
 
 /* The washes, asked before and after the correction and the withdrawal. */
-static void values(const struct index *index)
+static void values(const struct kiban_index *index)
 {
-    expect("validate", kiban_validate(index->body, index->body_length, index->data_length), 0);
     expect_value(index, "tram 17", 0, 4, KIBAN_ANSWER_PUT, &washes[0]);
     expect_value(index, "tram 17", 1, 9, KIBAN_ANSWER_PUT, &washes[0]);
     expect_value(index, "tram 17", 1, 8, KIBAN_ANSWER_PUT, &washes[1]);
@@ -317,37 +320,89 @@ static void values(const struct index *index)
     expect_value(index, "tram 99", 0, 0, KIBAN_ANSWER_NOTHING, NULL);
 }
 
-/* What validation refuses, asked all the same: a tombstone that has the old length, a put past the data, no body. */
-static void values_unvalidated(struct index *index)
+/* What an index has is opened again, into itself, and refused with a number: it is then all zero, and has no value. */
+static void open_refused(struct kiban_index index, uint64_t number)
 {
-    const size_t whole = index->data_length, tombstone = index->body_length - 2 * kiban_record_bytes(0, 0);
-    uint64_t found[KIBAN_RECORD_WORDS] = {0, 0, 0, 0};
-    index->body[tombstone + 9] = 3;
-    expect("validate", kiban_validate(index->body, index->body_length, whole), KIBAN_REFUSED_VALUE);
-    expect("get", kiban_get(index->body, index->body_length, index->data, whole, bytes("tram 23"), 7, 0, 0, found,
-                            KIBAN_RECORD_WORDS), KIBAN_FOUND);
-    expect("a tombstone", found[KIBAN_RECORD_KIND], KIBAN_TOMBSTONE);
-    expect("its length", found[KIBAN_RECORD_LENGTH], 3);
-    expect_value(index, "tram 23", 0, 0, KIBAN_ANSWER_WITHDRAWN, NULL);
-    index->data_length = 6;
-    expect_value(index, "tram 17", 0, 0, KIBAN_ANSWER_DAMAGE, NULL);
-    index->data_length = whole;
-    index->body_length = 0;
-    expect_value(index, "tram 17", 0, 0, KIBAN_ANSWER_DAMAGE, NULL);
+    expect("open", kiban_open(index.body, index.body_length, index.data, index.data_length, &index), number);
+    holds("no body", index.body == NULL && index.body_length == 0);
+    holds("no data", index.data == NULL && index.data_length == 0);
+    expect_value(&index, "tram 17", 0, 0, KIBAN_ANSWER_DAMAGE, NULL);
+    expect_value(&index, "tram 23", 0, 0, KIBAN_ANSWER_DAMAGE, NULL);
+    expect_value(&index, "", 1, 0, KIBAN_ANSWER_DAMAGE, NULL);
 }
 
-/* The washes' values by kiban_value. */
+/* Asks for tram 23's record without a limit, of bytes that validation refuses with 29. */
+static void get_refused(const struct kiban_index *index, uint64_t *found)
+{
+    expect("validate", kiban_validate(index->body, index->body_length, index->data_length), KIBAN_REFUSED_VALUE);
+    expect("get", kiban_get(index->body, index->body_length, index->data, index->data_length, bytes("tram 23"), 7, 0, 0,
+                            found, KIBAN_RECORD_WORDS), KIBAN_FOUND);
+}
+
+/*
+ * Tram 23's two versions swapped, so oldest first. A lookup in these bytes gives the withdrawn figure; kiban_open does
+ * not let it come to that.
+ */
+static void oldest_first(struct kiban_index index)
+{
+    const size_t older = index.body_length - VERSION, newer = older - VERSION;
+    uint64_t found[KIBAN_RECORD_WORDS] = {0, 0, 0, 0};
+    uint8_t swapped[ROOM];
+    memcpy(swapped, index.body, newer);
+    memcpy(swapped + newer, index.body + older, VERSION);
+    memcpy(swapped + older, index.body + newer, VERSION);
+    index.body = swapped;
+    get_refused(&index, found);
+    expect("a put", found[KIBAN_RECORD_KIND], KIBAN_PUT);
+    expect("the withdrawn one", found[KIBAN_RECORD_SEQUENCE], washes[3].sequence);
+    open_refused(index, KIBAN_REFUSED_VALUE);
+}
+
+/* An index changed since it was opened: a tombstone that has the old length, less data, no body. None gives a value. */
+static void changed(struct kiban_index index)
+{
+    const size_t whole = index.data_length;
+    uint64_t found[KIBAN_RECORD_WORDS] = {0, 0, 0, 0};
+    uint8_t body[ROOM];
+    memcpy(body, index.body, index.body_length);
+    body[index.body_length - 2 * VERSION + VERSION_LENGTH] = 3;
+    index.body = body;
+    get_refused(&index, found);
+    expect("a tombstone", found[KIBAN_RECORD_KIND], KIBAN_TOMBSTONE);
+    expect("its length", found[KIBAN_RECORD_LENGTH], 3);
+    expect_value(&index, "tram 23", 0, 0, KIBAN_ANSWER_WITHDRAWN, NULL);
+    index.data_length = 6;
+    expect_value(&index, "tram 17", 0, 0, KIBAN_ANSWER_DAMAGE, NULL);
+    index.data_length = whole;
+    index.body_length = 0;
+    expect_value(&index, "tram 17", 0, 0, KIBAN_ANSWER_DAMAGE, NULL);
+}
+
+/* An index opened for less data than it was made for, and with less of its body. */
+static void open_less(struct kiban_index index)
+{
+    index.data_length--;
+    open_refused(index, KIBAN_REFUSED_VALUE);
+    index.data_length++;
+    index.body_length--;
+    open_refused(index, KIBAN_REFUSED_VERSION);
+    index.body_length = 0;
+    open_refused(index, KIBAN_REFUSED_MAGIC);
+}
+
+/* The washes' values, by kiban_open and kiban_value. */
 static void figures(void)
 {
-    struct index index;
-    uint8_t arena[ROOM];
-    uint64_t state[KIBAN_STATE_WORDS] = {0, 0, 0};
+    struct kiban_index index;
+    uint8_t arena[ROOM], body[ROOM];
+    uint64_t state[KIBAN_STATE_WORDS] = {0, 0, 0}, length = 0;
     add_all(arena, sizeof arena, state, washes, sizeof washes / sizeof *washes);
-    expect("finish", finish_few(arena, state, index.body, &index.body_length), 0);
-    index.data = bytes(litres);
-    index.data_length = sizeof litres - 1;
+    expect("finish", finish_few(arena, state, body, &length), 0);
+    expect("open", kiban_open(body, length, bytes(litres), sizeof litres - 1, &index), 0);
     values(&index);
-    values_unvalidated(&index);
+    oldest_first(index);
+    changed(index);
+    open_less(index);
 }
 
 /* The published check value of CRC-32; trailers of the shortest body and of none, and one with another first byte. */
@@ -543,6 +598,7 @@ int main(int argc, char **argv)
     all_empty();
     some_empty();
     empty_key();
+    answers();
     figures();
     made_trailers();
     stored_trailer(argv[1]);
