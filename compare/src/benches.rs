@@ -7,6 +7,7 @@ mod mix;
 mod sort;
 mod validate;
 
+use crate::say::say;
 use crate::stored::repository;
 use crate::{End, Ended, named};
 use oracle::Rng;
@@ -197,7 +198,7 @@ impl Row {
     fn print(&self) {
         let Row { call, size, of, ours, theirs, middle: (low, high), rounds, runs, buffers, .. } = self;
         let (ratio, size, runs) = (ours / theirs, format!("{size} {of}"), format!("{rounds}x{runs}"));
-        println!(
+        say!(
             "{call:<22} {size:>13} {ours:>13.1} {theirs:>13.1} {ratio:>6.2} {low:>5.2} to {high:<5.2} {runs:>9}  {buffers}"
         );
     }
@@ -213,9 +214,15 @@ pub fn run_all(only: &str) -> Ended {
     let failed = |e: std::io::Error| format!("{file}: {e}");
     let mut written = std::fs::File::create(repository().join(file)).map_err(failed)?;
     oracle::TRAILER.store(false, std::sync::atomic::Ordering::Relaxed);
-    println!(
+    say!(
         "{:<22} {:>13} {:>13} {:>13} {:>6} {:>14} {:>9}  in the timed part",
-        "call", "n", "ours ns", "Rust ns", "ratio", "middle half", "runs"
+        "call",
+        "n",
+        "ours ns",
+        "Rust ns",
+        "ratio",
+        "middle half",
+        "runs"
     );
     let mut text = HEAD.to_string();
     let named = |e: &&Entry| if plot { e.plotted } else { e.name.contains(only) };
@@ -226,7 +233,7 @@ pub fn run_all(only: &str) -> Ended {
             text += &row.line();
         }
     }
-    println!("medians of rounds in turn; runs: rounds x runs a round, on each side; written to {file}");
+    say!("medians of rounds in turn; runs: rounds x runs a round, on each side; written to {file}");
     written.write_all(text.as_bytes()).map_err(failed)?;
     Ok(End::Same)
 }

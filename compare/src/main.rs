@@ -4,6 +4,7 @@ mod calls;
 mod numbers;
 mod plant;
 mod progress;
+mod say;
 mod stack;
 mod stored;
 mod table;
@@ -14,12 +15,13 @@ mod worst;
 
 use calls::Plan;
 use progress::Progress;
+use say::say;
 use std::process::ExitCode;
 use table::Table;
 use wobarelind::sys as ours;
 
 const USAGE: &str = "usage:
-    beside index INDEX DATA [LIMIT]                an index of the plant with its trailer, and the values; listed at LIMIT too
+    beside index INDEX DATA [LIMIT]                an index of the plant with its trailer, and the data; listed at LIMIT too
     beside hashes HASHES                           a filter of these hashes (u64, little-endian)
     beside filter FILTER [HASHES]                  a stored filter, asked for these hashes, or for drawn ones
     beside sample DIR [KEYS]                       writes such files: a small plant, or one of so many drawn keys
@@ -34,8 +36,12 @@ Exit codes: 0 nothing differs; 1 something differs; 2 it can't run; 3 nothing di
 /// The most threads that a comparison takes.
 const MOST_JOBS: u64 = 256;
 
+/// What the last line of a comparison says where the table of its numbers has a row that is wrong.
+const NUMBERS_WRONG: &str =
+    "; a number was not met, was met and can't be, or has no row in docs/NUMBERS.md: see the table";
+
 /// What a command comes to. Its number is the exit code.
-#[derive(Clone, Copy)]
+#[derive(Clone, Copy, Debug, PartialEq)]
 enum End {
     Same = 0,
     Differs = 1,
@@ -95,7 +101,8 @@ fn compare(plan: Plan, only: &str) -> End {
         table.add(plant::trial::check());
         fine = numbers::print(&table.numbers);
     }
-    println!("seed {}, {} cases in all, {} differ", plan.seed, table.cases, table.differ);
+    let wrong = if fine { "" } else { NUMBERS_WRONG };
+    say!("seed {}, {} cases in all, {} differ{wrong}", plan.seed, table.cases, table.differ);
     if fine && table.differ == 0 { End::Same } else { End::Differs }
 }
 
@@ -104,10 +111,11 @@ fn oracle(words: &[&str]) -> Ended {
     let command = oracle::command::parse(words)?;
     let waits = ["lines", "listing"].contains(&words[0]);
     let _waiting = (!waits).then(|| Progress::waiting(&format!("oracle {}", words[0])));
-    command();
+    command()?;
     Ok(End::Same)
 }
 
+/// Runs the command that the words are.
 fn command(words: &[&str]) -> Ended {
     match words {
         ["compare", rest @ ..] if rest.len() <= 4 => Ok(compare(plan(rest)?, rest.get(2).unwrap_or(&""))),
@@ -128,18 +136,16 @@ fn command(words: &[&str]) -> Ended {
     }
 }
 
+/// The words of the command line, and the exit code that they come to.
 fn main() -> ExitCode {
     let args: Vec<String> = std::env::args_os().skip(1).map(|word| word.to_string_lossy().into_owned()).collect();
     let words: Vec<&str> = args.iter().map(String::as_str).collect();
     if let ["-h" | "--help"] = words[..] {
-        println!("{USAGE}");
+        say!("{USAGE}");
         return ExitCode::SUCCESS;
     }
     match command(&words) {
         Ok(end) => ExitCode::from(end as u8),
-        Err(why) => {
-            eprintln!("beside: {why}");
-            ExitCode::from(2)
-        }
+        Err(why) => say::stop(&why),
     }
 }

@@ -1,6 +1,7 @@
 //! The stack that each kiban_* call takes: the call runs on a painted stack, and the deepest word that lost its paint says how far it went.
 //! Counted are its return address, the arguments that pass on the stack, and all that it and what it calls keep there.
 use crate::progress::Progress;
+use crate::say::say;
 use crate::{End, ours, worst};
 use oracle::lines::{Rec, rust_builder};
 use oracle::{Rng, paper};
@@ -209,10 +210,10 @@ pub fn run_all() -> End {
     filters(&mut d);
     listings(&mut d);
     drop(waiting);
-    println!("{:<22} {:>8} {:>8}  deepest at", "call", "bytes", "inputs");
+    say!("{:<22} {:>8} {:>8}  deepest at", "call", "bytes", "inputs");
     for Worst { call, inputs, bytes, least, input } in &d.rows {
         let input = if least == bytes { "every input" } else { input };
-        println!("{call:<22} {bytes:>8} {inputs:>8}  {input}");
+        say!("{call:<22} {bytes:>8} {inputs:>8}  {input}");
     }
     End::Same
 }

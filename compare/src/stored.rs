@@ -1,8 +1,9 @@
 //! The stored vectors: the program `replay` has the oracle's vector file for its `stdin`, as it was made.
 use crate::progress::Progress;
+use crate::say::say;
 use crate::table::Line;
 use crate::{End, Ended, ours};
-use oracle::{paper, rp, vectors};
+use oracle::{paper, replay, rp, vectors};
 use std::path::{Path, PathBuf};
 
 /// The file: `oracle vectors 1 FILE 1`, and the key hash of its bytes with seed 0.
@@ -16,23 +17,16 @@ fn fresh() -> Vec<u8> {
     vectors::make(SEED, SCALE)
 }
 
-/// A file's cases, each with its op first.
-fn cases(file: &[u8]) -> Vec<&[u8]> {
-    let mut rest = &file[12..];
-    let mut out = Vec::new();
-    while !rest.is_empty() {
-        let size = 5 + u32::from_le_bytes(rest[1..5].try_into().unwrap()) as usize;
-        let (case, after) = rest.split_at(size);
-        out.push(case);
-        rest = after;
-    }
-    assert!(out.len() as u32 == u32::from_le_bytes(file[8..12].try_into().unwrap()));
-    out
+/// The cases of a file that was made, op and bytes.
+fn cases(file: &[u8]) -> Vec<(u8, &[u8])> {
+    replay::cases(file).expect("a file is made whole")
 }
 
+/// The repository's folder.
 pub fn repository() -> &'static Path {
     Path::new(env!("CARGO_MANIFEST_DIR")).parent().unwrap()
 }
+/// Where the file is stored.
 fn place() -> PathBuf {
     repository().join("crates/replay/stdin")
 }
@@ -52,12 +46,12 @@ type Run = fn(&Made) -> (u64, Vec<u64>);
 fn made(file: &[u8], op: u8) -> Vec<Made> {
     let word = |b: &[u8]| u64::from_le_bytes(b[..8].try_into().unwrap());
     let read = |c: &[u8]| Made {
-        seed: word(&c[5..]),
-        n: u32::from_le_bytes(c[13..17].try_into().unwrap()) as usize,
-        number: c[17] as u64,
-        words: c[18..].chunks(8).map(word).collect(),
+        seed: word(c),
+        n: u32::from_le_bytes(c[8..12].try_into().unwrap()) as usize,
+        number: c[12] as u64,
+        words: c[13..].chunks(8).map(word).collect(),
     };
-    cases(file).into_iter().filter(|c| c[0] == op).map(read).collect()
+    cases(file).into_iter().filter(|(of, _)| *of == op).map(|(_, case)| read(case)).collect()
 }
 
 /// Op 19 by the boundary: the number, and the body's length, digest and seed.
@@ -88,7 +82,7 @@ fn built(c: &Made) -> (u64, Vec<u64>) {
 }
 
 /// The made cases of both ops, those too large for a program among them, by the boundary.
-fn replay(file: &[u8]) -> Line {
+fn by_the_boundary(file: &[u8]) -> Line {
     Line::timed("stored, by the boundary", |line| {
         let ops: [(u8, Run); 2] = [(0x19, finished), (0x31, built)];
         for (op, run) in ops {
@@ -129,13 +123,13 @@ pub fn check() -> Vec<Line> {
             ));
         }
     });
-    vec![anew, replay(&made)]
+    vec![anew, by_the_boundary(&made)]
 }
 
 /// Writes the `stdin` of `replay`.
 pub fn write() -> Ended {
     let made = fresh();
     std::fs::write(place(), &made).map_err(|e| format!("{}: {e}", place().display()))?;
-    println!("crates/replay/stdin: {} bytes, {} cases", made.len(), cases(&made).len());
+    say!("crates/replay/stdin: {} bytes, {} cases", made.len(), cases(&made).len());
     Ok(End::Same)
 }

@@ -1,4 +1,5 @@
 //! The table that is printed: one line a call.
+use crate::say::say;
 use std::collections::BTreeMap;
 use std::time::Instant;
 
@@ -15,6 +16,7 @@ pub struct Line {
 }
 
 impl Line {
+    /// A line of nothing yet.
     pub fn new(name: &str) -> Self {
         Line { name: name.into(), cases: 0, differ: 0, seconds: 0.0, notes: Vec::new(), numbers: BTreeMap::new() }
     }
@@ -46,6 +48,7 @@ impl Line {
     }
 }
 
+/// A text, cut where it is too long to be read.
 fn short(text: String) -> String {
     match text.char_indices().nth(900) {
         Some((at, _)) => format!("{} .. ({} characters)", &text[..at], text.len()),
@@ -61,13 +64,15 @@ pub struct Table {
 }
 
 impl Table {
+    /// Prints the head.
     pub fn new(head: &[&str; 4]) -> Self {
-        println!("{:<24} {:>10} {:>8} {:>8}", head[0], head[1], head[2], head[3]);
+        say!("{:<24} {:>10} {:>8} {:>8}", head[0], head[1], head[2], head[3]);
         Table { cases: 0, differ: 0, numbers: BTreeMap::new() }
     }
+    /// Prints a line with its notes, and adds it up.
     pub fn add(&mut self, line: Line) {
-        println!("{:<24} {:>10} {:>8} {:>8.1}", line.name, line.cases, line.differ, line.seconds);
-        line.notes.iter().for_each(|n| println!("    {n}"));
+        say!("{:<24} {:>10} {:>8} {:>8.1}", line.name, line.cases, line.differ, line.seconds);
+        line.notes.iter().for_each(|n| say!("    {n}"));
         self.cases += line.cases;
         self.differ += line.differ;
         line.numbers.into_iter().for_each(|(n, times)| *self.numbers.entry(n).or_insert(0) += times);

@@ -37,6 +37,7 @@ fn rows() -> Vec<[u64; 3]> {
     firsts.iter().zip(&segments).map(|(&n, &s)| [n, s, segment(n)]).collect()
 }
 
+/// Both tables.
 pub fn check() -> Vec<Line> {
     vec![
         line("sizing segments", || constant("LEASTS"), oracle::tables::leasts),

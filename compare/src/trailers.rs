@@ -29,6 +29,7 @@ fn body(line: &mut Line, r: &mut Rng, body: &[u8]) {
     file(line, &made[..made.len() - 5], false);
 }
 
+/// Files too short for a trailer, then so many bodies, the first ones of each length from 0 on.
 pub fn check() -> Line {
     Line::timed("trailers", |line| {
         let mut r = Rng(BODIES);

@@ -43,6 +43,10 @@ pub fn number(s: &str) -> Option<u64> {
 pub fn num(s: &str) -> u64 {
     number(s).expect("number")
 }
+/// Why a file could not be read or written.
+pub fn failed(path: &str) -> impl Fn(std::io::Error) -> String + '_ {
+    move |e| format!("{path}: {e}")
+}
 /// Our generator for tests: splitmix64 of its own state (nothing of the index depends on it).
 pub struct Rng(pub u64);
 impl Rng {

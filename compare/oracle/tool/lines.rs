@@ -1,5 +1,5 @@
 //! One request a line, one answer a line. Byte strings are lower-case hex, `-` when empty; numbers decimal or 0x..
-use crate::{Kind, hex, num, paper, rf, rp, unhex};
+use crate::{Kind, failed, hex, num, paper, rf, rp, unhex};
 use std::io::{BufRead, Read, Write};
 
 /// One record: new(1)/continued(0):kind(1 put, 2 tombstone):key:sequence:value length:offset
@@ -184,19 +184,25 @@ pub fn listing() {
     print!("{}", paper::listing(&b));
 }
 /// Arena bytes in a file -> body in a file; prints 0 or the refusal.
-pub fn finish_file(i: &str, o: &str) {
-    match rust_finish_arena(&std::fs::read(i).unwrap()) {
+pub fn finish_file(i: &str, o: &str) -> Result<(), String> {
+    match rust_finish_arena(&std::fs::read(i).map_err(failed(i))?) {
         Ok(b) => {
-            std::fs::write(o, b).unwrap();
+            std::fs::write(o, b).map_err(failed(o))?;
             println!("0")
         }
         Err(e) => println!("{e}"),
     }
+    Ok(())
 }
 /// u64 hashes in a file -> filter bytes in a file.
-pub fn filter_file(i: &str, o: &str) {
-    let mut h: Vec<u64> =
-        std::fs::read(i).unwrap().chunks(8).map(|c| u64::from_le_bytes(c.try_into().unwrap())).collect();
-    std::fs::write(o, rf::Filter::build(&mut h).encode()).unwrap();
+pub fn filter_file(i: &str, o: &str) -> Result<(), String> {
+    let bytes = std::fs::read(i).map_err(failed(i))?;
+    let (words, rest) = bytes.as_chunks::<8>();
+    if !rest.is_empty() {
+        return Err(format!("{i}: {} bytes are no whole number of u64 hashes", bytes.len()));
+    }
+    let mut h: Vec<u64> = words.iter().map(|&word| u64::from_le_bytes(word)).collect();
+    std::fs::write(o, rf::Filter::build(&mut h).encode()).map_err(failed(o))?;
     println!("0");
+    Ok(())
 }

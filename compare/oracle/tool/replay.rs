@@ -2,10 +2,21 @@
 use crate::paper;
 use crate::vectors::*;
 
+/// The cases of a vector file, op and bytes; none where it is no such file, or not whole.
+pub fn cases(file: &[u8]) -> Option<Vec<(u8, &[u8])>> {
+    let (&count, mut rest) = file.strip_prefix(MAGIC)?.split_first_chunk()?;
+    let mut all = Vec::new();
+    while let Some((&[op, a, b, c, d], after)) = rest.split_first_chunk() {
+        let (case, after) = after.split_at_checked(u32::from_le_bytes([a, b, c, d]) as usize)?;
+        all.push((op, case));
+        rest = after;
+    }
+    (rest.is_empty() && all.len() as u32 == u32::from_le_bytes(count)).then_some(all)
+}
 /// Reads a file back and answers each case with the paper's reading.
-pub fn replay(path: &str) {
-    let f = std::fs::read(path).unwrap();
-    assert!(&f[..8] == b"WASHVEC1");
+pub fn replay(path: &str) -> Result<(), String> {
+    let f = std::fs::read(path).map_err(crate::failed(path))?;
+    let all = cases(&f).ok_or_else(|| format!("{path}: no whole vector file, which begins with WASHVEC1"))?;
     struct R<'a>(&'a [u8]);
     impl<'a> R<'a> {
         fn take(&mut self, n: usize) -> &'a [u8] {
@@ -43,12 +54,9 @@ pub fn replay(path: &str) {
             b
         }
     }
-    let mut r = R(&f[8..]);
-    let count = r.u32();
     let (mut buf, mut body, mut filter) = (vec![], vec![], vec![]);
-    for case in 0..count {
-        let op = r.u8();
-        let mut p = R(r.bytes());
+    for (case, &(op, bytes)) in all.iter().enumerate() {
+        let mut p = R(bytes);
         let ok = match op {
             1 => paper::mix(p.u64()) == p.u64(),
             2 => {
@@ -210,6 +218,6 @@ pub fn replay(path: &str) {
             println!("case {case} (op {op:#x}) differs");
         }
     }
-    assert!(r.0.is_empty());
-    println!("{path}: {count} cases replayed with the paper's reading");
+    println!("{path}: {} cases replayed with the paper's reading", all.len());
+    Ok(())
 }

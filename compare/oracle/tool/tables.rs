@@ -1,6 +1,6 @@
 //! The sizing tables, by running the Rust's statements at each n.
 use crate::{
-    Rng, paper, rf,
+    Rng, failed, paper, rf,
     sizing_cut::{Len, sizing},
 };
 use std::fmt::Write as _;
@@ -84,12 +84,12 @@ pub fn rows_text(top: u64) -> String {
     }
     t
 }
-pub fn run(max: u64, dir: &str) {
-    std::fs::create_dir_all(dir).unwrap();
+pub fn run(max: u64, dir: &str) -> Result<(), String> {
+    std::fs::create_dir_all(dir).map_err(failed(dir))?;
     // (a) segments
     let leasts: Vec<u64> = (0..=18).map(least).collect();
     let t = segments_text();
-    std::fs::write(format!("{dir}/segments.txt"), &t).unwrap();
+    std::fs::write(format!("{dir}/segments.txt"), &t).map_err(failed(dir))?;
     print!("{t}");
     // k = 0 must hold at m = 2, and the rule is monotone in m and antitone in k: check the latter by the leasts rising.
     assert!(rule(0, 2) && leasts.windows(2).all(|w| w[0] < w[1]));
@@ -132,7 +132,7 @@ pub fn run(max: u64, dir: &str) {
                 tight = (slack, last, (g * s) as f64 / last as f64);
             }
         }
-        std::fs::write(format!("{dir}/rows-{top}.txt"), rows_text(top)).unwrap();
+        std::fs::write(format!("{dir}/rows-{top}.txt"), rows_text(top)).map_err(failed(dir))?;
         let min_g = r.iter().map(|r| r.2).min().unwrap();
         let max_g = r.iter().map(|r| r.2).max().unwrap();
         let falls = r.windows(2).filter(|w| w[1].1 == w[0].1 && w[1].2 < w[0].2).count();
@@ -185,6 +185,7 @@ pub fn run(max: u64, dir: &str) {
         }
         print!("{s}");
     }
+    Ok(())
 }
 /// Real builds at each n of a range: the header's fields against the cut statements.
 pub fn by_builds(from: u64, to: u64) {

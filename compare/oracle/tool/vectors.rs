@@ -312,21 +312,24 @@ fn le64(b: &mut [u8], at: usize, v: u64) {
     b[at..at + 8].copy_from_slice(&v.to_le_bytes());
 }
 
+/// The first bytes of a vector file.
+pub const MAGIC: &[u8; 8] = b"WASHVEC1";
+
 /// The vector file of a seed and a scale.
 pub fn make(seed: u64, scale: u64) -> Vec<u8> {
     file(&cases(seed, scale))
 }
 fn file(o: &Out) -> Vec<u8> {
-    let mut file = b"WASHVEC1".to_vec();
+    let mut file = MAGIC.to_vec();
     file.extend(o.cases.to_le_bytes());
     file.extend(&o.bytes);
     file
 }
 /// Writes it, and prints how many cases of each op gave which answer.
-pub fn write(seed: u64, path: &str, scale: u64) {
+pub fn write(seed: u64, path: &str, scale: u64) -> Result<(), String> {
     let o = cases(seed, scale);
     let file = file(&o);
-    std::fs::write(path, &file).unwrap();
+    std::fs::write(path, &file).map_err(crate::failed(path))?;
     println!(
         "{path}: {} bytes, {} cases; {} validations answered by the paper alone (data longer than a Rust slice)",
         file.len(),
@@ -340,6 +343,7 @@ pub fn write(seed: u64, path: &str, scale: u64) {
     for (op, v) in by {
         println!("  op {op:#04x}: {}", v.join(" "));
     }
+    Ok(())
 }
 fn cases(seed: u64, scale: u64) -> Out {
     let mut out = Out::default();

@@ -23,6 +23,7 @@ pub const FILTER: Form = Form { magic: "KIBANFL2", name: "a filter", goes: "a fi
 pub const HASHES_GO: &str = "hashes go to make compare-hashes (beside hashes)";
 
 impl Form {
+    /// Whether the first bytes are this form's.
     pub fn has(&self, bytes: &[u8]) -> bool {
         bytes.starts_with(self.magic.as_bytes())
     }

@@ -3,12 +3,14 @@ use super::files::{self, COMPACT, FILTER, HASHES_GO, INDEX};
 use super::report::Report;
 use super::verdict;
 use crate::progress::Progress;
+use crate::say::say;
 use crate::{Ended, ours, theirs};
 use oracle::Rng;
 
 /// How many hashes are drawn where no file gives them.
 const DRAWN: usize = 65_536;
 
+/// Reads the filter and asks it. Hashes that are given may be its own, so the verdict says how many of them it calls absent.
 pub fn run(filter: &str, hashes: Option<&str>) -> Ended {
     let bytes = files::read(filter)?;
     files::none_of(filter, &bytes, &[INDEX, COMPACT], "a filter")?;
@@ -16,16 +18,18 @@ pub fn run(filter: &str, hashes: Option<&str>) -> Ended {
         let why = "it does not begin with KIBANFL2, as a filter does, and holds a whole number of u64";
         return Err(format!("{filter}: {why}; {HASHES_GO}"));
     }
+    let given = hashes.is_some();
     let (hashes, from) = match hashes {
         Some(path) => (files::hashes(path)?, path),
         None => (drawn(DRAWN, &[]), "drawn"),
     };
-    println!("{filter}: {} bytes; {} hashes, {from}", bytes.len(), hashes.len());
+    say!("{filter}: {} bytes; {} hashes, {from}", bytes.len(), hashes.len());
     let mut report = Report::default();
-    let number = read(&mut report, &bytes);
+    let form = read(&mut report, &bytes);
     let maybe = ask(&mut report, &bytes, &hashes);
     report.part("ask", &format!("{maybe} of {} maybe", hashes.len()));
-    Ok(report.end(verdict::filter(&bytes, number)))
+    let absent = if given { hashes.len() - maybe } else { 0 };
+    Ok(report.end(verdict::filter(&bytes, form, absent, hashes.len())))
 }
 
 /// So many hashes that are not among these, which are sorted; always the same ones.
@@ -34,8 +38,8 @@ pub fn drawn(n: usize, members: &[u64]) -> Vec<u64> {
     std::iter::repeat_with(|| r.next()).filter(|h| members.binary_search(h).is_err()).take(n).collect()
 }
 
-/// The filter read on both sides: its fields, or 15. The number of ours.
-pub fn read(report: &mut Report, bytes: &[u8]) -> u64 {
+/// The filter read on both sides: its fields, or 15. Its form: 0 for Positive, 1 for Fuse, none where it is refused.
+pub fn read(report: &mut Report, bytes: &[u8]) -> Option<u64> {
     let mut answer = [0; 6];
     let ours = match ours::filter_read(bytes, &mut answer) {
         0 => Ok(answer),
@@ -50,7 +54,7 @@ pub fn read(report: &mut Report, bytes: &[u8]) -> u64 {
         }
     };
     report.part("read", &said);
-    ours.err().unwrap_or(0)
+    ours.ok().map(|[form, ..]| form)
 }
 
 /// Each hash asked on both sides, by itself and all at once; how many are maybe.

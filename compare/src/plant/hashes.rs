@@ -1,17 +1,18 @@
 //! `beside hashes HASHES`: a filter of these hashes, built, read and asked on both sides.
 use super::report::Report;
-use super::verdict::Verdict;
-use super::{files, filter};
+use super::{files, filter, verdict};
+use crate::say::say;
 use crate::{Ended, ours, theirs};
 use oracle::paper;
 
+/// Sorts the hashes, builds the filter, and asks it for them and for as many others.
 pub fn run(path: &str) -> Ended {
     let given = files::hashes(path)?;
-    println!("{path}: {} hashes", given.len());
+    say!("{path}: {} hashes", given.len());
     let mut report = Report::default();
     let sorted = sort(&mut report, &given);
     let bytes = build(&mut report, &given, &sorted);
-    filter::read(&mut report, &bytes);
+    let form = filter::read(&mut report, &bytes);
     let present = filter::ask(&mut report, &bytes, &sorted);
     report.ask(present == sorted.len(), || format!("{} of its own hashes are absent", sorted.len() - present));
     report.part("ask, its own", &format!("{present} of {} maybe", sorted.len()));
@@ -19,7 +20,7 @@ pub fn run(path: &str) -> Ended {
     let maybe = filter::ask(&mut report, &bytes, &others);
     let rate = 100.0 * maybe as f64 / others.len().max(1) as f64;
     report.part("ask, others", &format!("{maybe} of {} maybe, falsely: {rate:.2} of 100", others.len()));
-    Ok(report.end(Verdict::same("both sides build the same filter of these hashes, and it answers alike")))
+    Ok(report.end(verdict::built(form)))
 }
 
 /// The hashes sorted on both sides; the Rust's.

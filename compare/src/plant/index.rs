@@ -1,20 +1,25 @@
 //! `beside index INDEX DATA [LIMIT]`: an index of the plant on both sides.
 use super::files::{self, COMPACT, FILTER, INDEX};
 use super::lookups::{self, Asked, Sides};
-use super::report::Report;
+use super::report::{Report, counted};
 use super::{keys, verdict};
 use crate::progress::Progress;
+use crate::say::say;
 use crate::{Ended, ours, theirs};
-use oracle::{paper, rp};
+use oracle::rp;
 use std::sync::Arc;
+use wobarelind::Refusal;
 
 /// The five bytes behind a body: a zero and four check bytes.
 const TRAILER: usize = 5;
+/// The most bytes of a listing's input: limit, data length and body.
+const MOST_LISTED: usize = 65_536;
 
+/// Asks both sides all that the files can be asked; the verdict is by the Rust's validation.
 pub fn run(index: &str, data: &str, limit: u64) -> Ended {
     let (file, data) = read(index, data)?;
     let body = &file[..file.len() - TRAILER];
-    println!("{index}: a body of {} bytes and its trailer; data of {} bytes", body.len(), data.len());
+    say!("{index}: {} bytes before the last five; data of {} bytes", body.len(), data.len());
     let mut report = Report::default();
     let trailer = trailer(&mut report, &file);
     let waiting = Progress::waiting("validate");
@@ -24,12 +29,11 @@ pub fn run(index: &str, data: &str, limit: u64) -> Ended {
     let arena = keys::arena_of(body).unwrap_or_default();
     let asked = Asked { keys: keys::all(arena), limit };
     gets(&mut report, &sides, &asked);
-    let fresh = if arena.is_empty() { 0 } else { finish(&mut report, &sides, arena, &asked, &data) };
-    let limits = if limit == u64::MAX { &[u64::MAX][..] } else { &[u64::MAX, limit] };
-    limits.iter().for_each(|&limit| listing(&mut report, &sides, limit));
-    Ok(report.end(match sides.rust.number {
-        0 => verdict::accepted(trailer, fresh),
-        number => verdict::refused(&file, number, trailer, ours::validate(&file, data.len() as u64) == 0),
+    let fresh = if arena.is_empty() { None } else { finish(&mut report, &sides, arena, &asked, &data) };
+    let listed = listings(&mut report, &sides, limit);
+    Ok(report.end(match Refusal::from_number(sides.rust.number) {
+        None => verdict::accepted(trailer, fresh, listed),
+        Some(refusal) => verdict::refused(&file, refusal, trailer, ours::validate(&file, data.len() as u64) == 0),
     }))
 }
 
@@ -57,6 +61,7 @@ fn trailer(report: &mut Report, file: &[u8]) -> Option<String> {
     theirs
 }
 
+/// The number of each side for this data.
 fn validate(report: &mut Report, sides: &Sides) {
     let ours = ours::validate(sides.body, sides.data.len() as u64);
     report.equal("validate", ours, sides.rust.number);
@@ -64,6 +69,7 @@ fn validate(report: &mut Report, sides: &Sides) {
     report.part("validate", &said);
 }
 
+/// Every key that can be read, looked up; what the answers were.
 fn gets(report: &mut Report, sides: &Sides, asked: &Asked) {
     let [put, withdrawn, nothing, damage] = lookups::compare(report, sides, asked);
     let all = &asked.keys;
@@ -73,30 +79,24 @@ fn gets(report: &mut Report, sides: &Sides, asked: &Asked) {
         0 => String::new(),
         n => format!("; of {n} keys only the first and last {} versions gave limits", keys::VERSIONS / 2),
     };
-    let read = format!("{} keys of {versions} versions read", all.len());
+    let read = format!("{} of {} read", counted(all.len() as u64, "key"), counted(versions, "version"));
     let met = format!("{put} put, {withdrawn} withdrawn, {nothing} nothing, {damage} times 14");
     report.part("get", &format!("{read}; {met}{bound}"));
     if sides.rust.number == 22 {
-        println!("    a direct pilot lies past n: where the Rust reads on, 14 is document 01's (docs/DIFFERENCES.md)");
+        say!("    a direct pilot lies past n: where the Rust reads on, 14 is document 01's (docs/DIFFERENCES.md)");
     }
 }
 
-/// What finish makes of an arena, lent all that it needs.
-fn finished(arena: &[u8]) -> (Result<Vec<u8>, u64>, Result<Vec<u8>, u64>) {
+/// What finish makes of an arena, on our side and on the Rust's. Both have all the room that they need: 6 and 9 can't come.
+fn finished(arena: &[u8]) -> [Result<Vec<u8>, u64>; 2] {
     let _waiting = Progress::waiting("fresh finish");
-    let n = paper::walk(arena, 0, None, None, &mut |_, _| true).map_or(0, |w| w.0.len());
-    let (mut wide, mut narrow) = (vec![0; 2 * n], vec![0; 8 * n + 8]);
-    let mut out = vec![0; 32 + 4 * n.div_ceil(3) + 12 * n + arena.len()];
-    let theirs = theirs::finish(arena, out.len(), wide.len(), narrow.len(), 1);
-    let mut length = [0];
-    let number = ours::finish(arena, &mut out, &mut wide, &mut narrow, &mut length);
-    out.truncate(length[0] as usize);
-    (if number == 0 { Ok(out) } else { Err(number) }, theirs)
+    let room = usize::MAX;
+    [wobarelind::finish(arena).map_err(Refusal::number), theirs::finish(arena, room, room, room, 1)]
 }
 
-/// A fresh finish of the arena: the same bytes on both sides, and, if the file was accepted, the same answers as the file's. Its number.
-fn finish(report: &mut Report, file: &Sides, arena: &[u8], asked: &Asked, data: &Arc<[u8]>) -> u64 {
-    let (ours, theirs) = finished(arena);
+/// A fresh finish of the arena: the same bytes on both sides, and, if the file was accepted, the same answers as the file's. Its refusal.
+fn finish(report: &mut Report, file: &Sides, arena: &[u8], asked: &Asked, data: &Arc<[u8]>) -> Option<Refusal> {
+    let [ours, theirs] = finished(arena);
     report.ask(ours == theirs, || differing(&ours, &theirs));
     let made = match &ours {
         Err(10) => "refused with 10".into(),
@@ -115,7 +115,7 @@ fn finish(report: &mut Report, file: &Sides, arena: &[u8], asked: &Asked, data: 
         lookups::compare_fresh(report, file, &Sides::new(body, data), asked);
         report.part("get on the fresh body", "the answers of the file's body");
     }
-    ours.err().unwrap_or(0)
+    ours.err().and_then(Refusal::from_number)
 }
 
 /// How many of the seed, the pilots and the slots are others in two accepted bodies of one arena.
@@ -143,13 +143,24 @@ fn differing(ours: &Result<Vec<u8>, u64>, theirs: &Result<Vec<u8>, u64>) -> Stri
     format!("finish: ours {}, the Rust {}{}", told(ours), told(theirs), at.unwrap_or_default())
 }
 
+/// The listing at 2^64 - 1, and at the limit; whether the body is short enough to be listed.
+fn listings(report: &mut Report, sides: &Sides, limit: u64) -> bool {
+    let size = 16 + sides.body.len();
+    if size > MOST_LISTED {
+        say!("listing: left out, its input would have {size} bytes, over {MOST_LISTED}");
+        return false;
+    }
+    listing(report, sides, u64::MAX);
+    if limit < u64::MAX {
+        listing(report, sides, limit);
+    }
+    true
+}
+
 /// The listing at a limit, against the text rendered from the Rust's answers.
 fn listing(report: &mut Report, sides: &Sides, limit: u64) {
     let length = sides.data.len() as u64;
     let input = [&limit.to_le_bytes()[..], &length.to_le_bytes(), sides.body].concat();
-    if input.len() > 65_536 {
-        return println!("listing: left out at limit {limit}, its input would have {} bytes, over 65,536", input.len());
-    }
     let (mut out, mut size) = (vec![0; 131_072], [0]);
     let number = ours::listing(&input, &mut out, &mut size);
     let ours = String::from_utf8_lossy(&out[..size[0] as usize]).into_owned();

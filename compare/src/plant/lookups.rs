@@ -23,6 +23,7 @@ pub struct Asked<'a> {
 const STRAYS: [&[u8]; 2] = [b"", b"KIBANPH2"];
 
 impl<'a> Sides<'a> {
+    /// The Rust validates the body here.
     pub fn new(body: &'a [u8], data: &'a Arc<[u8]>) -> Self {
         Sides { body, data, rust: Reader::new(body, data.clone()) }
     }
@@ -50,6 +51,7 @@ impl<'a> Sides<'a> {
     }
 }
 
+/// An answer as it is shown: of a value the first 64 bytes.
 fn told(got: Got) -> String {
     match got {
         Ok(([kind, sequence, offset, length], value)) => {

@@ -1,4 +1,5 @@
 //! `beside sample DIR [KEYS]`: a plant's files to try the tool on, made by the old Rust. sample/ stores those of the small plant.
+use crate::say::say;
 use crate::{End, Ended};
 use oracle::{Kind, Rng, rf, rp};
 use std::path::Path;
@@ -58,10 +59,11 @@ fn hashes(keys: usize) -> Vec<u64> {
     (0..keys).map(|_| r.next()).collect()
 }
 
+/// Writes a file into the folder, and says so.
 fn write(dir: &str, name: &str, bytes: &[u8]) -> Result<(), String> {
     let path = Path::new(dir).join(name);
     std::fs::write(&path, bytes).map_err(|e| format!("{}: {e}", path.display()))?;
-    println!("{}: {} bytes", path.display(), bytes.len());
+    say!("{}: {} bytes", path.display(), bytes.len());
     Ok(())
 }
 

@@ -5,15 +5,22 @@ use crate::stored::repository;
 use crate::table::Line;
 use oracle::{paper, rp};
 use std::path::{Path, PathBuf};
-use std::process::{Command, Output};
+use std::process::{Command, Output, Stdio};
+use wobarelind::Refusal;
 
 /// The keys of the larger sample.
 const KEYS: &str = "5000";
 /// The files of a sample, in the order in which the functions below take them.
 const FILES: [&str; 4] = ["wash.idx", "wash.dat", "wash.hashes", "wash.filter"];
 
+/// Runs the tool to its end, with standard output into a pipe that is read.
 fn tool(arguments: &[&str]) -> Option<Output> {
-    Command::new(std::env::current_exe().ok()?).args(arguments).output().ok()
+    tool_into(Stdio::piped(), arguments)
+}
+
+/// The same with standard output into this.
+fn tool_into(out: impl Into<Stdio>, arguments: &[&str]) -> Option<Output> {
+    Command::new(std::env::current_exe().ok()?).args(arguments).stdout(out).output().ok()
 }
 
 /// A file's path, which is text.
@@ -25,7 +32,7 @@ fn path(dir: &Path, name: &str) -> String {
 fn questions(text: &str) -> Option<u64> {
     let sum: Vec<&str> = text.lines().rev().nth(1)?.split(' ').collect();
     match sum[..] {
-        [questions, "questions,", "0", "differ"] => questions.parse().ok(),
+        [questions, "question," | "questions,", "0", "differ"] => questions.parse().ok(),
         _ => None,
     }
 }
@@ -44,7 +51,11 @@ fn alike(line: &mut Line, arguments: &[&str], codes: &[i32], words: &str) {
 
 /// The tool has to end with 2, to say these words, and to print nothing else.
 fn stopped(line: &mut Line, arguments: &[&str], words: &str) {
-    let output = tool(arguments);
+    ended(line, tool(arguments), arguments, words);
+}
+
+/// A run that has to have ended so.
+fn ended(line: &mut Line, output: Option<Output>, arguments: &[&str], words: &str) {
     let text = output.as_ref().map_or(String::new(), |o| String::from_utf8_lossy(&o.stderr).into_owned());
     let told = text.starts_with("beside: ") && text.contains(words);
     let fine = told && output.is_some_and(|o| o.status.code() == Some(2) && o.stdout.is_empty());
@@ -80,13 +91,21 @@ fn run_damaged(line: &mut Line, file: &str, least: usize, places: &[usize], run:
     }
 }
 
+/// Standard output that takes nothing, a full one and a pipe without a reader, stops the tool with a line and no panic.
+fn unheard(line: &mut Line, arguments: &[&str]) {
+    let full = std::fs::File::create("/dev/full").ok();
+    let closed = std::io::pipe().ok().map(|(_, writer)| writer);
+    let runs = [full.and_then(|out| tool_into(out, arguments)), closed.and_then(|out| tool_into(out, arguments))];
+    runs.into_iter().for_each(|output| ended(line, output, arguments, "beside: standard output took no more\n"));
+}
+
 /// A sample: its files whole, then its index and its filter damaged at so many places of each region. The store's trailer shows every
 /// damage of an index; a filter's cells may be changed and still be a filter.
-fn sample(line: &mut Line, dir: &Path, keys: &[&str], each: usize) {
+fn sample(line: &mut Line, dir: &Path, keys: &[&str], each: usize, listed: &str) {
     let made = tool(&[&["sample", &path(dir, "")], keys].concat());
     line.count(made.is_some_and(|o| o.status.success()), || "beside sample does not end with 0".into());
     let [index, data, hashes, filter] = FILES.map(|name| path(dir, name));
-    alike(line, &["index", &index, &data], &[0], "accept this index, and answer alike");
+    alike(line, &["index", &index, &data], &[0], &format!("accept this index, and answer alike{listed}"));
     alike(line, &["index", &index, &hashes], &[3], "refuse this file with 29");
     alike(line, &["hashes", &hashes], &[0], "build the same filter");
     alike(line, &["filter", &filter], &[0], "accept this filter");
@@ -145,11 +164,24 @@ fn others(line: &mut Line, dir: &Path) {
     };
     run(0, "accept this index, and answer alike", changed(dir, with(32, &[5, 0, 0, 0])));
     run(3, "compact form is not carried over", changed(dir, with(0, b"KIBANPH3")));
-    let told = format!("both sides refuse this file with {} Its trailer is right", numbers::told(26));
+    let told =
+        format!("both sides refuse this file with {} The index's trailer is right", numbers::told(Refusal::SLOT));
     run(3, &told, changed(dir, with(36, &[9])));
     run(3, "the trailer is missing", changed(dir, body));
     run(3, "refuse the file for its trailer", changed(dir, |file| [body(file), vec![0; 5]].concat()));
     run(3, "cut or changed since", changed(dir, |file| file[..file.len() - 6].to_vec()));
+    run(3, "cut or changed since", changed(dir, |file| [b"X", &file[1..file.len() / 8 * 8]].concat()));
+}
+
+/// Hashes of which a filter is Positive, none and equal ones; and a filter that is asked for hashes that are not its own.
+fn hashes(line: &mut Line, dir: &Path) {
+    let [none, equal, others] = &["none.hashes", "equal.hashes", "other.hashes"].map(|name| path(dir, name));
+    _ = std::fs::write(none, []);
+    _ = std::fs::write(equal, [7; 16]);
+    _ = std::fs::write(others, (0..80).collect::<Vec<u8>>());
+    alike(line, &["hashes", none], &[0], "Positive filter, which calls nothing absent");
+    alike(line, &["hashes", equal], &[0], "Positive filter, which calls nothing absent");
+    alike(line, &["filter", &path(dir, FILES[3]), others], &[0], "given hashes that it calls absent: 10 of 10");
 }
 
 /// An accepted index of two keys that finish can't place: they have equal hashes under each of the eight seeds, and not under this one.
@@ -191,7 +223,7 @@ fn misplaced(line: &mut Line, dir: &Path) {
 /// No file, a file under five bytes, hashes cut short, no such command, words too few or no numbers.
 fn refusals(line: &mut Line, dir: &Path) {
     let [short, none, here] = &["short", "none", ""].map(|name| path(dir, name));
-    let [index, data, ..] = &FILES.map(|name| path(dir, name));
+    let [index, data, hashes, _] = &FILES.map(|name| path(dir, name));
     _ = std::fs::write(short, [0; 4]);
     stopped(line, &["index", none, data], none);
     stopped(line, &["index", index, none], none);
@@ -219,22 +251,31 @@ fn refusals(line: &mut Line, dir: &Path) {
     stopped(line, &["oracle", "selfcheck", "1"], "SEED ROUNDS");
     stopped(line, &["oracle", "selfcheck", "1", "x"], "ROUNDS");
     stopped(line, &["oracle", "replay", none], none);
+    stopped(line, &["oracle", "replay", here], here);
+    stopped(line, &["oracle", "replay", data], "WASHVEC1");
+    stopped(line, &["oracle", "filter-file", data, none], "no whole number of u64");
+    stopped(line, &["oracle", "filter-file", hashes, here], here);
+    stopped(line, &["oracle", "vectors", "1", here, "1"], here);
 }
 
+/// Every run of the tool.
 pub fn check() -> Line {
     let dir: PathBuf = repository().join("target/plant files");
     Line::timed("plant files", |line| {
         let _waiting = Progress::waiting("plant files");
         let (small, one) = (&dir.join("small"), &dir.join("one"));
-        sample(line, small, &[], 16);
+        sample(line, small, &[], 16, "");
         stored(line, small);
-        sample(line, &dir.join("large"), &[KEYS], 1);
+        sample(line, &dir.join("large"), &[KEYS], 1, "; it was too long to be listed");
         limits(line, small);
         others(line, one);
         let [index, data] = changed(one, |_| unplaced().unwrap_or_default());
-        alike(line, &["index", &index, &data], &[0], "both refuse a fresh finish of its records with 10");
+        alike(line, &["index", &index, &data], &[0], "The file itself is good.");
+        hashes(line, small);
         misplaced(line, small);
         refusals(line, small);
+        unheard(line, &["--help"]);
+        unheard(line, &["hashes", &path(small, FILES[2])]);
         let questions = line.numbers.remove(&0).unwrap_or(0);
         line.notes.push(format!("a case is a run of the tool; {questions} questions in all"));
     })
