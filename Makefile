@@ -49,7 +49,7 @@ $(LIBRARY): $(SOURCES)
 	@touch $@
 
 test:
-	@$(NEED) rt
+	@$(NEED) rt gzip
 	@sh scripts/check-toolchain
 	@sh scripts/check-quotes && sh scripts/test-check-trust
 	@sh scripts/check-specs && sh scripts/test-check-specs

@@ -69,6 +69,17 @@ static int read_limit(const char *text, uint64_t *limit)
     return 1;
 }
 
+/* Says where a value within a limit is no longer the key's: it was withdrawn or corrected past the limit. */
+static void print_since(const struct kiban_index *index, const char *key, const uint8_t *value, size_t length)
+{
+    const uint8_t *newest;
+    size_t newest_length;
+    if (kiban_value(index, (const uint8_t *)key, strlen(key), 0, 0, &newest, &newest_length) == KIBAN_ANSWER_WITHDRAWN)
+        printf("%s: withdrawn since\n", key);
+    else if (newest != value || newest_length != length)
+        printf("%s: corrected since\n", key);
+}
+
 /* Prints a key's value within the limit, or why there is none. */
 static int print_value(const char *path, const struct kiban_index *index, const char *key, uint64_t limit)
 {
@@ -79,6 +90,7 @@ static int print_value(const char *path, const struct kiban_index *index, const 
         printf("%s: %llu bytes: ", key, (unsigned long long)length);
         fwrite(value, 1, length, stdout);
         printf("\n");
+        print_since(index, key, value, length);
         break;
     case KIBAN_ANSWER_WITHDRAWN:
         printf("%s: withdrawn\n", key);
@@ -100,7 +112,7 @@ static void put_u64(uint8_t *at, uint64_t number)
         at[i] = (uint8_t)(number >> 8 * i);
 }
 
-/* Prints the listing at the limit. */
+/* Prints the listing at the limit. An index that is too long to be listed was looked up all the same. */
 static int print_listing(const char *path, const struct kiban_index *index, uint64_t limit)
 {
     static uint8_t text[KIBAN_LISTING_BYTES];
@@ -115,9 +127,12 @@ static int print_listing(const char *path, const struct kiban_index *index, uint
     free(input);
     if (memcmp(text, "refused ", 8) == 0)
         number = strtoull((const char *)text + 8, NULL, 10);
-    if (number != 0)
+    if (number == KIBAN_REFUSED_INPUT)
+        fprintf(stderr, "example: %s: too long to be listed; what stands above holds\n", path);
+    else if (number != 0)
         return refused(path, number);
-    fwrite(text, 1, length, stdout);
+    else
+        fwrite(text, 1, length, stdout);
     return (fflush(stdout) == 0 && !ferror(stdout)) || failed("standard output", "it took no more: the text is cut");
 }
 

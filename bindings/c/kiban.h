@@ -258,7 +258,7 @@ static inline uint64_t kiban_open(const uint8_t *body, size_t body_length, const
     return number;
 }
 
-/* What kiban_value answers. The numbers are its own: no mix-up with what kiban_get returns passes a test. */
+/* What kiban_value answers. None is a number that kiban_get returns: taken for that, none passes a test. */
 enum kiban_answer {
     KIBAN_ANSWER_PUT = 101, /* a put: its value is given, which may have no bytes */
     KIBAN_ANSWER_WITHDRAWN, /* a tombstone: the key was withdrawn, and has no value */
@@ -270,6 +270,7 @@ enum kiban_answer {
  * The key's value within the limit, or none. Only at KIBAN_ANSWER_PUT is there a value: *value_length bytes of the
  * data, from *value on. Otherwise *value is NULL and *value_length 0. Go by the answer, for a value of no bytes in data
  * that is NULL is NULL too. index: filled by kiban_open. limited, limit: as in kiban_get, over which this is plain C.
+ * Past a limit the value may have been corrected or withdrawn: what stands now is asked without one.
  */
 static inline enum kiban_answer kiban_value(const struct kiban_index *index, const uint8_t *key, size_t key_length,
                                             uint8_t limited, uint64_t limit, const uint8_t **value,
@@ -328,7 +329,7 @@ uint64_t kiban_filter_ask_all(const uint8_t *bytes, size_t bytes_length, const u
 /*
  * The listing of an input: u64 limit, u64 data length (little-endian), body. out: KIBAN_LISTING_BYTES hold every
  * text. answer: 1 word, the text's length. Returns 0, also where the text is `refused R` and a line's end, or 6. Any
- * other text begins with `limit L keys N shown M`; each of its M lines has key in hex, sequence, put or tomb, offset
+ * other text begins with `limit L keys N shown S`; each of its S lines has key in hex, sequence, put or tomb, offset
  * and length.
  */
 uint64_t kiban_listing(const uint8_t *input, size_t input_length, uint8_t *out, size_t out_length, uint64_t *answer,

@@ -1,9 +1,9 @@
 //! The KIBANPH2 point index and the Fuse8 filter of kiban, through the proved functions of `libkiban_c.a`.
 //!
-//! What each call does, its numbers and its lengths stand in `bindings/c/kiban.h`; names are kiban's where it has them. This package adds
-//! memory: the builder's buffer grows, and workspace and output are allocated as the calls need them. Nothing here
-//! decides anything that the proved code decides. Plain Rust, and not proved, are [`equal_hashes`] and the trailer of
-//! an index file: [`trailer()`], [`with_trailer`], [`body_of`].
+//! What each call does, its numbers and its lengths stand in `bindings/c/kiban.h`; names are kiban's where it has them.
+//! This package adds memory: the builder's buffer grows, and workspace and output are allocated as the calls need them.
+//! Nothing here decides anything that the proved code decides. Plain Rust, and not proved, are [`equal_hashes`] and the
+//! trailer of an index file: [`trailer()`], [`with_trailer`], [`body_of`].
 //!
 //! ```
 //! use wobarelind::{Answer, Kind, LegacyIndex, PointBuilder, Refusal};

@@ -154,8 +154,8 @@ impl<'d> Answer<'d> {
     }
 }
 
-/// A validated body beside its data. There is no lookup in a body that validation refuses: it could give a figure that
-/// was withdrawn, as where a tool wrote a key's versions oldest first.
+/// A validated body beside its data. Only such a body is asked: a lookup in bytes that validation refuses could give a
+/// figure that was withdrawn, as where a tool wrote a key's versions oldest first.
 ///
 /// An answer borrows from the data. It may outlive the index and the body, and cannot outlive the data:
 ///
@@ -184,7 +184,8 @@ impl<'b, 'd> LegacyIndex<'b, 'd> {
         Ok(Self { body, data })
     }
 
-    /// The key's record of greatest sequence within the limit.
+    /// The key's record of greatest sequence within the limit. Past the limit it may have been corrected or withdrawn:
+    /// what stands now is asked without a limit.
     pub fn get(&self, key: &[u8], limit: Option<u64>) -> Answer<'d> {
         let found = calls::get(self.body, self.data, key, limit);
         let Some([kind, seq, offset, length]) = found.expect("proved: a lookup never refuses a validated body") else {

@@ -163,8 +163,8 @@ pub fn validate(body: &[u8], data_length: u64) -> u64 {
 }
 
 /// The key's record within the limit: 0 found, 1 nothing, 14. `answer`: kind, sequence, offset, length; of kind 2, a
-/// tombstone, there is no value. On a body that [`validate`] does not accept it may be any record of the key, a withdrawn one
-/// too: for a figure call [`crate::LegacyIndex::get`].
+/// tombstone, there is no value. On a body that [`validate`] does not accept it may be any record of the key, a
+/// withdrawn one too: for a figure call [`crate::LegacyIndex::get`].
 pub fn get(body: &[u8], data: &[u8], key: &[u8], limit: Option<u64>, answer: &mut [u64]) -> u64 {
     let (limited, limit) = (limit.is_some() as u8, limit.unwrap_or(0));
     unsafe {

@@ -38,8 +38,7 @@ fn crc32(bytes: impl Iterator<Item = u8>) -> u32 {
 }
 
 /// The five bytes that the store writes behind a body: a zero, and the CRC-32 of the body and that zero, little-endian.
-///
-/// This is plain Rust, and not proved. The trailer of the store's filter blocks has another first byte.
+/// Plain Rust, and not proved.
 pub fn trailer(body: &[u8]) -> [u8; LENGTH] {
     let [a, b, c, d] = crc32(body.iter().copied().chain([INDEX])).to_le_bytes();
     [INDEX, a, b, c, d]

@@ -58,7 +58,7 @@ pub fn refused(file: &[u8], refusal: Refusal, trailer: Option<String>, whole: bo
             format!("It does not begin with KIBANPH2, and its size is a multiple of eight: {HASHES_GO}.")
         }
         _ if !INDEX.resembles(file) => "It does not begin with KIBANPH2.".into(),
-        None => "The index's trailer is right: it was not changed since it was written.".into(),
+        None => "The index's trailer is right: it was written so, or its trailer was made anew.".into(),
         Some(_) if whole => "With its last five bytes it is an accepted body: the trailer is missing behind it.".into(),
         Some(why) => {
             format!("The store would refuse its trailer too ({why}): it was cut or changed since it was written.")
@@ -143,7 +143,7 @@ mod tests {
     #[test]
     fn a_refused_index_and_its_trailer() {
         let file = b"KIBANPH2........";
-        assert_eq!(told(file, None, false), "The index's trailer is right: it was not changed since it was written.");
+        assert_eq!(told(file, None, false), "The index's trailer is right: it was written so, or its trailer was made anew.");
         assert!(told(file, Some("checksum"), true).ends_with("the trailer is missing behind it."));
         assert!(
             told(file, Some("checksum"), false).ends_with("(checksum): it was cut or changed since it was written.")
