@@ -62,12 +62,16 @@ pub const ALL: &[Entry] = &[
     entry::<sort::Equal>(),
     entry::<sort::Worst>(),
     entry::<sort::Alternating>(),
-    entry::<finish::Finish>(),
+    entry::<finish::Finish<16>>(),
+    entry::<finish::Finish<13>>(),
     entry::<finish::Package>(),
-    entry::<validate::Validate>(),
-    entry::<get::Hit>(),
+    entry::<validate::Validate<16>>(),
+    entry::<validate::Validate<13>>(),
+    entry::<get::Hit<16>>(),
+    entry::<get::Hit<13>>(),
     entry::<get::Empty>(),
-    entry::<get::Miss>(),
+    entry::<get::Miss<16>>(),
+    entry::<get::Miss<13>>(),
     entry::<filter::Build>(),
     entry::<filter::Package>(),
     entry::<filter::AskOne>(),
@@ -78,17 +82,26 @@ pub const ALL: &[Entry] = &[
 /// The key counts of the plot.
 const PLOT: &[usize] = &[1_000, 2_000, 4_000, 8_000, 16_000, 32_000, 65_536];
 
-/// Records of so many keys of 16 bytes, one version each with a value of so many bytes.
-fn records(keys: usize, length: u64, seed: usize) -> Vec<Rec> {
+/// A call's name where its keys have so many bytes: 16, or 13, which are a whole word and a rest.
+const fn of_keys(bytes: usize, of_16: &'static str, of_13: &'static str) -> &'static str {
+    match bytes {
+        16 => of_16,
+        13 => of_13,
+        _ => panic!("no name for keys of that length"),
+    }
+}
+
+/// Records of so many keys of so many bytes, one version each with a value of so many bytes.
+fn records(keys: usize, bytes: usize, length: u64, seed: usize) -> Vec<Rec> {
     let mut r = Rng((keys + seed) as u64);
-    let mut drawn: Vec<Vec<u8>> = (0..keys).map(|_| r.bytes(16)).collect();
+    let mut drawn: Vec<Vec<u8>> = (0..keys).map(|_| r.bytes(bytes)).collect();
     drawn.sort();
     let record = |(i, key)| Rec { new: true, kind: 1, key, seq: i as u64, len: length, offset: length * i as u64 };
     drawn.into_iter().enumerate().map(record).collect()
 }
 /// Their body, made by the Rust, and the keys.
-fn body(keys: usize, length: u64) -> (Vec<u8>, Vec<Vec<u8>>) {
-    let recs = records(keys, length, 0);
+fn body(keys: usize, bytes: usize, length: u64) -> (Vec<u8>, Vec<Vec<u8>>) {
+    let recs = records(keys, bytes, length, 0);
     (rust_builder(&recs).unwrap().finish().unwrap(), recs.into_iter().map(|x| x.key).collect())
 }
 
@@ -199,7 +212,7 @@ impl Row {
         let Row { call, size, of, ours, theirs, middle: (low, high), rounds, runs, buffers, .. } = self;
         let (ratio, size, runs) = (ours / theirs, format!("{size} {of}"), format!("{rounds}x{runs}"));
         say!(
-            "{call:<22} {size:>13} {ours:>13.1} {theirs:>13.1} {ratio:>6.2} {low:>5.2} to {high:<5.2} {runs:>9}  {buffers}"
+            "{call:<24} {size:>13} {ours:>13.1} {theirs:>13.1} {ratio:>6.2} {low:>5.2} to {high:<5.2} {runs:>9}  {buffers}"
         );
     }
 }
@@ -215,7 +228,7 @@ pub fn run_all(only: &str) -> Ended {
     let mut written = std::fs::File::create(repository().join(file)).map_err(failed)?;
     oracle::TRAILER.store(false, std::sync::atomic::Ordering::Relaxed);
     say!(
-        "{:<22} {:>13} {:>13} {:>13} {:>6} {:>14} {:>9}  in the timed part",
+        "{:<24} {:>13} {:>13} {:>13} {:>6} {:>14} {:>9}  in the timed part",
         "call",
         "n",
         "ours ns",

@@ -70,7 +70,7 @@ impl Depths {
 
 fn numbers(d: &mut Depths) {
     d.run("kiban_mix", "1", || assert!(ours::mix(1) != 1));
-    for length in [0, 7, 8, 100, 1_048_576] {
+    for length in [0, 1, 3, 7, 8, 13, 100, 1_048_576] {
         let key = vec![7; length];
         d.run("kiban_hash", &format!("{length} bytes"), || assert!(ours::hash(&key, 1) != 0));
     }

@@ -1,12 +1,12 @@
 //! kiban_finish, against the Rust's finish_legacy on the builder that holds the same arena; and finish_legacy of the package in
 //! bindings/rust, which allocates as the Rust does. The trailer's check bytes, which ours leaves to the host, cost the Rust nothing here.
-use super::{Bench, records};
+use super::{Bench, of_keys, records};
 use crate::ours;
 use oracle::lines::{Rec, rust_builder};
 use oracle::rp;
 use wobarelind::{Kind, PointBuilder};
 
-pub struct Finish;
+pub struct Finish<const BYTES: usize>;
 pub struct Package;
 
 pub struct Input {
@@ -21,8 +21,8 @@ pub struct Input {
 }
 
 impl Input {
-    fn new(size: usize) -> Input {
-        let recs = records(size, 8, 0);
+    fn new(size: usize, bytes: usize) -> Input {
+        let recs = records(size, bytes, 8, 0);
         let arena = rust_builder(&recs).unwrap().arena().to_vec();
         let out = vec![0; 32 + 4 * size.div_ceil(3) + 12 * size + arena.len()];
         let (wide, narrow) = (vec![0; 2 * size], vec![0; 8 * size + 8]);
@@ -31,7 +31,7 @@ impl Input {
     /// The Rust's builder anew, and our arena written too, so that both are as warm.
     fn prepare(&mut self, round: usize) {
         self.made = Vec::new();
-        self.recs = records(self.recs.len(), 8, round);
+        self.recs = records(self.recs.len(), self.recs[0].key.len(), 8, round);
         let theirs = rust_builder(&self.recs).unwrap();
         self.arena.copy_from_slice(theirs.arena());
         self.theirs = Some(theirs);
@@ -41,16 +41,16 @@ impl Input {
     }
 }
 
-impl Bench for Finish {
+impl<const BYTES: usize> Bench for Finish<BYTES> {
     type Input = Input;
-    const NAME: &'static str = "finish";
+    const NAME: &'static str = of_keys(BYTES, "finish", "finish, 13 bytes");
     const BUFFERS: &'static str = super::LENT;
     const REPEATS: bool = false;
     const WHOLE: bool = true;
-    const PLOTTED: bool = true;
+    const PLOTTED: bool = BYTES == 16;
 
     fn input(size: usize) -> Input {
-        Input::new(size)
+        Input::new(size, BYTES)
     }
     fn prepare(i: &mut Input, round: usize) {
         i.prepare(round);
@@ -70,7 +70,7 @@ impl Bench for Package {
     const REPEATS: bool = false;
 
     fn input(size: usize) -> Self::Input {
-        (Input::new(size), PointBuilder::new())
+        (Input::new(size, 16), PointBuilder::new())
     }
     fn prepare((i, ours): &mut Self::Input, round: usize) {
         i.prepare(round);

@@ -1,12 +1,12 @@
-//! kiban_get, no limit, on the very bytes that the Rust's index holds: keys of 16 bytes that are there, in a shuffled order, and keys that
-//! aren't. The Rust's answer of a key that is there holds a copy of the value, ours its place; an empty value is no copy.
-use super::{Bench, body};
+//! kiban_get, no limit, on the very bytes that the Rust's index holds: keys that are there, in a shuffled order, and keys that aren't,
+//! of 16 bytes or of 13. The Rust's answer of a key that is there holds a copy of the value, ours its place; an empty value is no copy.
+use super::{Bench, body, of_keys};
 use crate::ours;
 use oracle::{Rng, data, rp};
 
-pub struct Hit;
+pub struct Hit<const BYTES: usize>;
 pub struct Empty;
-pub struct Miss;
+pub struct Miss<const BYTES: usize>;
 
 pub struct Input {
     keys: Vec<Vec<u8>>,
@@ -16,8 +16,13 @@ pub struct Input {
 }
 
 impl Input {
-    fn new(size: usize, length: u64, asked: impl FnOnce(&mut Rng, Vec<Vec<u8>>) -> Vec<Vec<u8>>) -> Input {
-        let (body, keys) = body(size, length);
+    fn new(
+        size: usize,
+        bytes: usize,
+        length: u64,
+        asked: impl FnOnce(&mut Rng, Vec<Vec<u8>>) -> Vec<Vec<u8>>,
+    ) -> Input {
+        let (body, keys) = body(size, bytes, length);
         let data = data(8 * size);
         let keys = asked(&mut Rng(1), keys);
         Input { theirs: rp::Prepared::new(&body, data.clone()), keys, data, next: 0 }
@@ -46,14 +51,14 @@ fn shuffled(r: &mut Rng, mut keys: Vec<Vec<u8>>) -> Vec<Vec<u8>> {
     keys
 }
 
-impl Bench for Hit {
+impl<const BYTES: usize> Bench for Hit<BYTES> {
     type Input = Input;
-    const NAME: &'static str = "get, there";
+    const NAME: &'static str = of_keys(BYTES, "get, there", "get, there, 13 bytes");
     const BUFFERS: &'static str = "the Rust copies the value (8 bytes) into a Vec";
-    const PLOTTED: bool = true;
+    const PLOTTED: bool = BYTES == 16;
 
     fn input(size: usize) -> Input {
-        Input::new(size, 8, shuffled)
+        Input::new(size, BYTES, 8, shuffled)
     }
     fn ours(i: &mut Input) {
         assert!(i.ours() == 0);
@@ -68,7 +73,7 @@ impl Bench for Empty {
     const NAME: &'static str = "get, there, no value";
 
     fn input(size: usize) -> Input {
-        Input::new(size, 0, shuffled)
+        Input::new(size, 16, 0, shuffled)
     }
     fn ours(i: &mut Input) {
         assert!(i.ours() == 0);
@@ -78,13 +83,13 @@ impl Bench for Empty {
     }
 }
 
-impl Bench for Miss {
+impl<const BYTES: usize> Bench for Miss<BYTES> {
     type Input = Input;
-    const NAME: &'static str = "get, not there";
-    const PLOTTED: bool = true;
+    const NAME: &'static str = of_keys(BYTES, "get, not there", "get, not there, 13 bytes");
+    const PLOTTED: bool = BYTES == 16;
 
     fn input(size: usize) -> Input {
-        Input::new(size, 8, |r, keys| keys.iter().map(|_| r.bytes(16)).collect())
+        Input::new(size, BYTES, 8, |r, keys| keys.iter().map(|_| r.bytes(BYTES)).collect())
     }
     fn ours(i: &mut Input) {
         assert!(i.ours() == 1);

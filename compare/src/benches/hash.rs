@@ -13,7 +13,7 @@ pub struct Input {
 impl Bench for Hash {
     type Input = Input;
     const NAME: &'static str = "hash";
-    const SIZES: &'static [usize] = &[0, 5, 8, 16, 31, 64, 1_024];
+    const SIZES: &'static [usize] = &[0, 1, 5, 7, 8, 13, 16, 31, 64, 1_024];
     const OF: &'static str = "bytes";
 
     fn input(size: usize) -> Input {

@@ -39,12 +39,13 @@ impl Call for Hash {
     type Answer = u64;
     const NAME: &'static str = "kiban_hash";
 
-    /// Every length to 300 and the greatest that a key may have, in zeros and in ones; with seeds 0 and 2^64 - 1.
+    /// Every length to 300 and the greatest that a key may have, in zeros, in ones and in bytes that rise; with seeds 0 and 2^64 - 1.
     fn fixed() -> Vec<Case> {
         let lengths = (0..300).chain([65_536, 1_048_575, 1_048_576, 1_048_577]);
+        let fillings: [fn(usize) -> u8; 3] = [|_| 0, |_| 255, |i| (i % 251) as u8];
         lengths
-            .flat_map(|l| [(0, 0), (255, 0), (0, u64::MAX), (255, u64::MAX)].map(|(b, seed)| (l, b, seed)))
-            .map(|(l, b, seed)| Case { buffer: vec![b; l], start: 0, seed })
+            .flat_map(|l| fillings.map(|byte| (0..l).map(byte).collect::<Vec<u8>>()))
+            .flat_map(|buffer| [0, u64::MAX].map(|seed| Case { buffer: buffer.clone(), start: 0, seed }))
             .collect()
     }
     fn draw(r: &mut Rng) -> Case {
