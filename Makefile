@@ -8,8 +8,6 @@ INDEX ?=
 DATA ?=
 LIMIT ?=
 HASHES ?=
-FROM ?= 1
-TO ?= 65536
 ROBUST_CASES ?= 20000
 
 LIBRARY = target/staticlib/libkiban_c.a
@@ -26,7 +24,7 @@ CARGO = cargo build --offline --locked --manifest-path compare/Cargo.toml --targ
 
 # A program that is written and then found wrong does not stay.
 .DELETE_ON_ERROR:
-.PHONY: help run library test wrong bindings compare-tool compare compare-sizes compare-files compare-hashes release bench speed stack robust vectors clean
+.PHONY: help run library test wrong bindings compare-tool compare compare-files compare-hashes release bench speed stack robust vectors clean
 help:
 	@sed -n '/^## Commands/,/^## /{/^    [a-z]/p}' README.md
 
@@ -86,12 +84,6 @@ compare:
 	@$(AGAIN) compare-tool
 	@$(if $(CALL),:,sh scripts/bindings)
 	@$(BESIDE) compare $(SEED) $(CASES) "$(CALL)" $(JOBS)
-
-# Finish and filter build at every size from FROM to TO.
-compare-sizes:
-	@$(NEED) $(BOTH) "SEED=$(SEED)" "FROM=$(FROM)" "TO=$(TO)" "JOBS=$(JOBS)"
-	@$(AGAIN) compare-tool
-	@$(BESIDE) sizes $(SEED) $(FROM) $(TO) $(JOBS)
 
 # An index of the plant and its data, or hashes of it, on both sides.
 compare-files:

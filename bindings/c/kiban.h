@@ -10,8 +10,8 @@
  * the three headers is plain C beside the library, and not proved.
  *
  * Every call ends, on all bytes and numbers, and returns 0 or the number of a refusal unless its comment says
- * otherwise. A refused call changes nothing that was lent to it, but the workspace of a kiban_finish that answers 10,
- * which is then zero.
+ * otherwise. A refused call changes nothing that was lent to it, but the workspace of a kiban_finish that answers 10
+ * (or 11, which is proved never to come), which is then zero.
  *
  * A slice passes as a pointer and a length in elements. The host sees to it that
  * - a pointer leads to as many elements as its length says, aligned for their type. Nothing is read or written
@@ -45,7 +45,7 @@ enum kiban_refusal {
     KIBAN_REFUSED_ARENA = 8,
     KIBAN_REFUSED_WORKSPACE = 9,
     KIBAN_REFUSED_ATTEMPTS = 10,
-    /* 11 is retired: kiban_finish never gave it. */
+    KIBAN_REFUSED_SELF_CHECK = 11,
     KIBAN_REFUSED_HASHES = 12,
     KIBAN_REFUSED_DAMAGE = 14,
     KIBAN_REFUSED_FILTER = 15,
@@ -80,6 +80,7 @@ static inline const char *kiban_cause(uint64_t number)
     case KIBAN_REFUSED_ARENA: return "arena breaks a key or version rule (23 to 25, 27 to 29 without the data test)";
     case KIBAN_REFUSED_WORKSPACE: return "workspace too short";
     case KIBAN_REFUSED_ATTEMPTS: return "all eight attempts failed";
+    case KIBAN_REFUSED_SELF_CHECK: return "self-check (slots unfilled or mismatched)";
     case KIBAN_REFUSED_HASHES: return "more than 65,536 hashes";
     case KIBAN_REFUSED_DAMAGE: return "lookup meets damage";
     case KIBAN_REFUSED_FILTER: return "filter bytes not accepted";
@@ -211,7 +212,7 @@ uint64_t kiban_set_offset(uint8_t *buffer, size_t buffer_length, const uint64_t 
  * Writes the body of an arena (the used bytes of a buffer, and no more): an index file without its last five bytes.
  * For n keys, which is state[KIBAN_STATE_KEYS]: out kiban_body_bytes(n, arena_length), wide kiban_finish_wide(n),
  * narrow kiban_finish_narrow(n). answer: 1 word, the body's length. Returns 0 or, first of these: 6 for the answer,
- * 8, 5, 9, 6, 10. At 10 kiban_keys.h names the keys that stand in the way.
+ * 8, 5, 9, 6, 10, 11. At 10 kiban_keys.h names the keys that stand in the way.
  */
 uint64_t kiban_finish(const uint8_t *arena, size_t arena_length, uint8_t *out, size_t out_length, uint64_t *wide,
                       size_t wide_length, uint32_t *narrow, size_t narrow_length, uint64_t *answer,

@@ -83,7 +83,7 @@ static void causes(void)
 {
     uint64_t number;
     for (number = 0; number <= 31; number++) {
-        const int none = number == 0 || number == 11 || number == 13 || (number >= 17 && number <= 19) || number == 31;
+        const int none = number == 0 || number == 13 || (number >= 17 && number <= 19) || number == 31;
         holds("a cause, or none", has_cause(number) != none);
         expect("the first of that cause", first_of_cause(number), none ? 0 : number);
     }

@@ -1,12 +1,12 @@
 //! The calls that are compared: one file each, one line of `ALL` each.
 mod add;
-pub mod drawn;
+mod drawn;
 mod filter_ask;
 mod filter_ask_all;
-pub mod filter_build;
+mod filter_build;
 mod filter_read;
 mod filters;
-pub mod finish;
+mod finish;
 mod get;
 mod hash;
 mod history;
@@ -84,17 +84,16 @@ pub const ALL: &[Entry] = &[
 const BLOCK: u64 = 64;
 
 /// A block's own generator, so that a new call moves no other's cases.
-pub fn generator(seed: u64, name: &str, block: u64) -> Rng {
+fn generator(seed: u64, name: &str, block: u64) -> Rng {
     let start = oracle::paper::mix(seed ^ oracle::paper::mix(block));
     Rng(name.bytes().fold(start, |a, b| oracle::paper::mix(a ^ b as u64)))
 }
 
-/// Runs a case on both sides and counts it; it is told by its name where it differs. The Rust's answer.
-pub fn compare<C: Call>(line: &mut Line, case: &C::Case, name: impl FnOnce() -> String) -> C::Answer {
+/// Runs a case on both sides and counts it.
+fn compare<C: Call>(line: &mut Line, case: &C::Case) {
     let (ours, theirs) = (C::ours(case), C::theirs(case));
     C::numbers(&theirs).into_iter().for_each(|n| *line.numbers.entry(n).or_insert(0) += 1);
-    line.count(ours == theirs, || format!("{}: ours {ours:?}, the Rust {theirs:?}", name()));
-    theirs
+    line.count(ours == theirs, || format!("{case:?}: ours {ours:?}, the Rust {theirs:?}"));
 }
 
 /// One thread: takes the next fixed case or the next block until none is left.
@@ -104,7 +103,7 @@ fn work<C: Call>(plan: Plan, fixed: &[C::Case], next: &AtomicU64, progress: &Pro
     loop {
         let unit = next.fetch_add(1, Relaxed);
         if let Some(case) = fixed.get(unit as usize) {
-            compare::<C>(&mut line, case, || format!("{case:?}"));
+            compare::<C>(&mut line, case);
             progress.step();
             continue;
         }
@@ -115,29 +114,32 @@ fn work<C: Call>(plan: Plan, fixed: &[C::Case], next: &AtomicU64, progress: &Pro
         let mut r = generator(plan.seed, C::NAME, block);
         drawn::forget();
         for _ in block * BLOCK..drawn.min((block + 1) * BLOCK) {
-            let case = C::draw(&mut r);
-            compare::<C>(&mut line, &case, || format!("{case:?}"));
+            compare::<C>(&mut line, &C::draw(&mut r));
             progress.step();
         }
     }
 }
 
-/// The work of so many threads, added up.
-pub fn on_threads(jobs: u64, line: &mut Line, work: impl Fn() -> Line + Sync) {
+/// Every thread's work, added up.
+fn all_work<C: Call>(plan: Plan, line: &mut Line) {
+    let fixed = C::fixed();
+    let progress = Progress::new(C::NAME, fixed.len() as u64 + plan.cases.div_ceil(C::ONE_IN));
+    let next = AtomicU64::new(0);
+    let one = || work::<C>(plan, &fixed, &next, &progress);
     std::thread::scope(|scope| {
-        let others: Vec<_> = (1..jobs).map(|_| scope.spawn(&work)).collect();
-        line.merge(work());
+        let others: Vec<_> = (1..plan.jobs).map(|_| scope.spawn(one)).collect();
+        line.merge(one());
         others.into_iter().for_each(|other| line.merge(other.join().expect("a thread that ends")));
     });
 }
 
 fn run<C: Call>(plan: Plan) -> Line {
     Line::timed(C::NAME, |line| {
-        let fixed = C::fixed();
-        let progress = Progress::new(C::NAME, fixed.len() as u64 + plan.cases.div_ceil(C::ONE_IN));
-        let next = AtomicU64::new(0);
-        on_threads(plan.jobs, line, || work::<C>(plan, &fixed, &next, &progress));
-        line.tell_numbers();
+        all_work::<C>(plan, line);
+        if !line.numbers.is_empty() {
+            let met: Vec<String> = line.numbers.iter().map(|(n, cases)| format!("{n}: {cases}")).collect();
+            line.notes.push(format!("answers {}", met.join(", ")));
+        }
         for n in C::MET.iter().filter(|&n| !line.numbers.contains_key(n)) {
             line.differ += 1;
             line.notes.push(format!("{n} was never met"));

@@ -5,7 +5,6 @@ mod numbers;
 mod plant;
 mod progress;
 mod say;
-mod sizes;
 mod stack;
 mod stored;
 mod table;
@@ -27,7 +26,6 @@ const USAGE: &str = "usage:
     beside filter FILTER [HASHES]                  a stored filter, asked for these hashes, or for drawn ones
     beside sample DIR [KEYS]                       writes such files: a small plant, or one of so many drawn keys
     beside compare [SEED [CASES [CALL [JOBS]]]]    drawn cases of every call, or of those with CALL in their name
-    beside sizes [SEED [FROM [TO [JOBS]]]]         finish and filter build at every size from FROM to TO, 1 to 65536
     beside bench [CALL | plot]                     times, or those that docs/speed.svg shows
     beside stack                                   the stack that each call takes
     beside vectors                                 writes the stored vectors anew
@@ -39,7 +37,8 @@ Exit codes: 0 nothing differs; 1 something differs; 2 it can't run; 3 nothing di
 const MOST_JOBS: u64 = 256;
 
 /// What the last line of a comparison says where the table of its numbers has a row that is wrong.
-const NUMBERS_WRONG: &str = "; a number was not met, or has no row in docs/NUMBERS.md: see the table";
+const NUMBERS_WRONG: &str =
+    "; a number was not met, was met and can't be, or has no row in docs/NUMBERS.md: see the table";
 
 /// What a command comes to. Its number is the exit code.
 #[derive(Clone, Copy, Debug, PartialEq)]
@@ -77,36 +76,26 @@ fn named(call: &str, names: impl Iterator<Item = &'static str>) -> Result<(), St
     Err(format!("no call has {call:?} in its name; there are: {}", names.join("; ")))
 }
 
-/// The word at a place; an empty one where there is none.
-fn word<'a>(words: &[&'a str], at: usize) -> &'a str {
-    words.get(at).copied().unwrap_or("")
-}
-
-/// On how many threads a comparison runs.
-fn jobs(word: &str) -> Result<u64, String> {
-    match number("JOBS", word, 1)? {
-        jobs @ 1..=MOST_JOBS => Ok(jobs),
-        jobs => Err(format!("JOBS is 1 to {MOST_JOBS}, not {jobs}")),
-    }
-}
-
 /// What a comparison draws, from the words behind `compare`; all of them are checked here.
 fn plan(words: &[&str]) -> Result<Plan, String> {
-    let (seed, cases) = (number("SEED", word(words, 0), 1)?, number("CASES", word(words, 1), 100_000)?);
-    let jobs = jobs(word(words, 3))?;
-    named(word(words, 2), calls::ALL.iter().map(|call| call.name))?;
+    let word = |at: usize| words.get(at).copied().unwrap_or("");
+    let (seed, cases) = (number("SEED", word(0), 1)?, number("CASES", word(1), 100_000)?);
+    let jobs = number("JOBS", word(3), 1)?;
+    if !(1..=MOST_JOBS).contains(&jobs) {
+        return Err(format!("JOBS is 1 to {MOST_JOBS}, not {jobs}"));
+    }
+    named(word(2), calls::ALL.iter().map(|call| call.name))?;
     Ok(Plan { seed, cases, jobs })
 }
 
-/// Every call, then the sizes, what the repository stores of the Rust's answers, the trailers, and the tool on a plant's files.
+/// Every call, then what the repository stores of the Rust's answers, the trailers, and the tool on a plant's files.
 fn compare(plan: Plan, only: &str) -> End {
-    let mut table = Table::new();
+    let mut table = Table::new(&["call", "cases", "differ", "seconds"]);
     for call in calls::ALL.iter().filter(|c| c.name.contains(only)) {
         table.add((call.run)(plan));
     }
     let mut fine = true;
     if only.is_empty() {
-        sizes::check(&mut table, plan);
         stored::check().into_iter().chain(tables::check()).for_each(|line| table.add(line));
         table.add(trailers::check());
         table.add(plant::trial::check());
@@ -114,7 +103,7 @@ fn compare(plan: Plan, only: &str) -> End {
     }
     let wrong = if fine { "" } else { NUMBERS_WRONG };
     say!("seed {}, {} cases in all, {} differ{wrong}", plan.seed, table.cases, table.differ);
-    if fine { table.end() } else { End::Differs }
+    if fine && table.differ == 0 { End::Same } else { End::Differs }
 }
 
 /// The old Rust alone. Two of its commands wait for standard input, and say nothing meanwhile.
@@ -129,8 +118,7 @@ fn oracle(words: &[&str]) -> Ended {
 /// Runs the command that the words are.
 fn command(words: &[&str]) -> Ended {
     match words {
-        ["compare", rest @ ..] if rest.len() <= 4 => Ok(compare(plan(rest)?, word(rest, 2))),
-        ["sizes", rest @ ..] if rest.len() <= 4 => sizes::run(rest),
+        ["compare", rest @ ..] if rest.len() <= 4 => Ok(compare(plan(rest)?, rest.get(2).unwrap_or(&""))),
         ["bench"] => benches::run_all(""),
         ["bench", call] => benches::run_all(call),
         ["stack"] => Ok(stack::run_all()),

@@ -6,12 +6,11 @@ use wobarelind::Refusal;
 /// The table of the numbers: `| number | name | cause | given by | what to do |`.
 const TABLE: &str = include_str!("../../docs/NUMBERS.md");
 
-/// What a run can't meet of a number: a part of 5.
-const UNMET: &[(Refusal, &str)] =
-    &[(Refusal::COUNT, "by keys alone: a version beyond 4,294,967,295 needs a buffer of 90 GB")];
-
-/// What is said of a number that docs/NUMBERS.md does not have.
-const NO_ROW: &str = "has no row in docs/NUMBERS.md";
+/// What a run can't meet of a number: of 5 a part, of 11 all.
+const UNMET: &[(Refusal, &str)] = &[
+    (Refusal::COUNT, "by keys alone: a version beyond 4,294,967,295 needs a buffer of 90 GB"),
+    (Refusal::SELF_CHECK, "can't be met: finish never answers it"),
+];
 
 /// What docs/NUMBERS.md says to do at a refusal; nothing where it has no such row.
 fn what_to_do(refusal: Refusal) -> &'static str {
@@ -30,9 +29,12 @@ pub fn told(refusal: Refusal) -> String {
 
 /// What is wrong with how often a number was answered, or with docs/NUMBERS.md; nothing where all is well.
 fn wrong(refusal: Refusal, times: u64) -> Option<&'static str> {
-    match (what_to_do(refusal), times) {
-        ("", _) => Some(NO_ROW),
-        (_, 0) => Some("was never met"),
+    if what_to_do(refusal).is_empty() {
+        return Some("has no row in docs/NUMBERS.md");
+    }
+    match (times > 0, refusal == Refusal::SELF_CHECK) {
+        (false, false) => Some("was never met"),
+        (true, true) => Some("was met, and finish never answers it"),
         _ => None,
     }
 }
@@ -46,7 +48,7 @@ fn row(refusal: Refusal, times: u64) -> bool {
     wrong.is_none()
 }
 
-/// Prints the table, and says whether each number was met, and no other.
+/// Prints the table, and says whether each number that can be met was, and no other.
 pub fn print(met: &BTreeMap<u64, u64>) -> bool {
     let times = |number| met.get(&number).copied().unwrap_or(0);
     say!("{:>6} {:>10}  cause", "number", "answers");
@@ -54,6 +56,6 @@ pub fn print(met: &BTreeMap<u64, u64>) -> bool {
     let fine = Refusal::ALL.into_iter().map(|refusal| row(refusal, times(refusal.number())));
     let fine = fine.fold(times(0) > 0, |all, one| all && one);
     let others: Vec<&u64> = met.keys().filter(|&&n| n > 0 && Refusal::from_number(n).is_none()).collect();
-    others.iter().for_each(|number| say!("{number:>6} {:>10}  [{NO_ROW}]", times(**number)));
+    others.iter().for_each(|number| say!("{number:>6} {:>10}  [no number of document 01]", times(**number)));
     fine && others.is_empty()
 }

@@ -1,5 +1,4 @@
 //! The table that is printed: one line a call.
-use crate::End;
 use crate::say::say;
 use std::collections::BTreeMap;
 use std::time::Instant;
@@ -47,13 +46,6 @@ impl Line {
         self.notes.truncate(3);
         other.numbers.into_iter().for_each(|(n, times)| *self.numbers.entry(n).or_insert(0) += times);
     }
-    /// Tells how often each number was answered, if any was.
-    pub fn tell_numbers(&mut self) {
-        if !self.numbers.is_empty() {
-            let met: Vec<String> = self.numbers.iter().map(|(n, cases)| format!("{n}: {cases}")).collect();
-            self.notes.push(format!("answers {}", met.join(", ")));
-        }
-    }
 }
 
 /// A text, cut where it is too long to be read.
@@ -73,8 +65,8 @@ pub struct Table {
 
 impl Table {
     /// Prints the head.
-    pub fn new() -> Self {
-        say!("{:<24} {:>10} {:>8} {:>8}", "call", "cases", "differ", "seconds");
+    pub fn new(head: &[&str; 4]) -> Self {
+        say!("{:<24} {:>10} {:>8} {:>8}", head[0], head[1], head[2], head[3]);
         Table { cases: 0, differ: 0, numbers: BTreeMap::new() }
     }
     /// Prints a line with its notes, and adds it up.
@@ -84,9 +76,5 @@ impl Table {
         self.cases += line.cases;
         self.differ += line.differ;
         line.numbers.into_iter().for_each(|(n, times)| *self.numbers.entry(n).or_insert(0) += times);
-    }
-    /// What its lines come to.
-    pub fn end(&self) -> End {
-        if self.differ == 0 { End::Same } else { End::Differs }
     }
 }

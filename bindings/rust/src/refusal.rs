@@ -50,6 +50,7 @@ refusals! {
     ARENA = 8, "arena breaks a key or version rule (23 to 25, 27 to 29 without the data test)";
     WORKSPACE = 9, "workspace too short";
     ATTEMPTS = 10, "all eight attempts failed";
+    SELF_CHECK = 11, "self-check (slots unfilled or mismatched)";
     HASHES = 12, "more than 65,536 hashes";
     DAMAGE = 14, "lookup meets damage";
     FILTER = 15, "filter bytes not accepted";
@@ -68,7 +69,7 @@ refusals! {
 }
 
 impl Refusal {
-    /// The refusal that has this number; none has 0, 13, 17 to 19 or one past 30, and 11 is retired.
+    /// The refusal that has this number; none has 0, 13, 17 to 19 or one past 30.
     pub fn from_number(number: u64) -> Option<Refusal> {
         Self::ALL.into_iter().find(|refusal| refusal.0 == number)
     }

@@ -1,5 +1,5 @@
 //! Every refusal that this package's calls can give, by its cause; DAMAGE by `sys::get`, since only a validated body is
-//! asked. Not met: STATE, BUFFER and WORKSPACE (they are the package's own, and fit).
+//! asked. Not met: STATE, BUFFER and WORKSPACE (they are the package's own, and fit), SELF_CHECK (proved never to be given).
 mod example;
 
 use std::collections::HashSet;
@@ -29,7 +29,7 @@ fn shown_with_number_and_cause() {
 #[test]
 fn every_refusal_has_a_number_and_a_cause_of_its_own() {
     let numbers: Vec<u64> = Refusal::ALL.map(Refusal::number).into();
-    assert_eq!(numbers, (1..=10).chain([12]).chain(14..=16).chain(20..=30).collect::<Vec<_>>());
+    assert_eq!(numbers, (1..=12).chain(14..=16).chain(20..=30).collect::<Vec<_>>());
     assert_eq!(HashSet::from(Refusal::ALL.map(Refusal::cause)).len(), numbers.len());
     let from: Vec<Refusal> = (0..100).filter_map(Refusal::from_number).collect();
     assert_eq!(from, Refusal::ALL);

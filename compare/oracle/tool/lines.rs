@@ -35,7 +35,8 @@ pub fn number(m: &str) -> u32 {
     match m {
         "sstable invalid argument: point index key count" => 5,
         "sstable invalid argument: point index construction exhausted seed retries" => 10,
-        // Also the two messages of the Rust's own check of its slots, which still runs: if one comes, the run stops with it.
+        "sstable corrupt: point index: construction did not fill every slot"
+        | "sstable corrupt: point index: construction slot mismatch" => 11,
         other => panic!("no number for {other}"),
     }
 }

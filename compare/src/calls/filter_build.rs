@@ -37,13 +37,6 @@ impl Answer {
     }
 }
 
-/// Hashes with what their filter needs.
-pub fn fit(hashes: Vec<u64>) -> Case {
-    let n = hashes.len();
-    let c = if n == 0 { 0 } else { paper::sizing(n as u64).2 as usize };
-    Case { wide: c + n, narrow: 2 * c + n, out: 48 + c, answers: 1, hashes }
-}
-
 impl Call for FilterBuild {
     type Case = Case;
     type Answer = Answer;
@@ -55,14 +48,14 @@ impl Call for FilterBuild {
     /// for; both ends of every row of the sizes; hashes that no attempt peels, and such with one of them drawn anew.
     fn fixed() -> Vec<Case> {
         let made = |n: u64| (0..n).map(|i| paper::mix(i.wrapping_mul(paper::STEP))).collect::<Vec<u64>>();
-        let ample = |h: Vec<u64>| Case { wide: 150_000, narrow: 250_000, out: 80_000, answers: 1, hashes: h };
-        let short = |wide, narrow, out| Case { wide, narrow, out, ..ample(made(1)) };
-        let sizes = [0, 1, 2, 3, 4, 5, 65_536, 65_537].map(|n| ample(made(n)));
+        let fit = |h: Vec<u64>| Case { wide: 150_000, narrow: 250_000, out: 80_000, answers: 1, hashes: h };
+        let short = |wide, narrow, out| Case { wide, narrow, out, ..fit(made(1)) };
+        let sizes = [0, 1, 2, 3, 4, 5, 65_536, 65_537].map(|n| fit(made(n)));
         let short = [short(15, 29, 62), short(14, 29, 62), short(15, 28, 62), short(15, 29, 61)];
         let none = [48, 47].map(|out| Case { wide: 0, narrow: 0, out, answers: 1, hashes: Vec::new() });
         let rows = (5..65_536).filter(|&n| paper::sizing(n) != paper::sizing(n + 1));
-        let ends = rows.flat_map(|n| [n, n + 1]).map(|n| ample(made(n)));
-        let equal = [vec![0, 0], worst::order(65_536), worst::alternating(65_536)].map(ample);
+        let ends = rows.flat_map(|n| [n, n + 1]).map(|n| fit(made(n)));
+        let equal = [vec![0, 0], worst::order(65_536), worst::alternating(65_536)].map(fit);
         let mut r = Rng(1);
         let mut hunted: Vec<Vec<u64>> = [200, 300, 5_000, 65_536].map(|n| hunt::exhaust_pairs(n, &mut r)).into();
         for at in (0..200).step_by(10) {
@@ -70,17 +63,19 @@ impl Call for FilterBuild {
             h[at] = r.next();
             hunted.push(h);
         }
-        let hunted = hunted.into_iter().map(ample);
+        let hunted = hunted.into_iter().map(fit);
         sizes.into_iter().chain(short).chain(none).chain(equal).chain(ends).chain(hunted).collect()
     }
     fn draw(r: &mut Rng) -> Case {
-        let fit = fit(drawn::hashes(r));
+        let hashes = drawn::hashes(r);
+        let n = hashes.len();
+        let c = if n == 0 { 0 } else { paper::sizing(n as u64).2 as usize };
         Case {
-            wide: drawn::around(r, fit.wide),
-            narrow: drawn::around(r, fit.narrow),
-            out: drawn::around(r, fit.out),
+            wide: drawn::around(r, c + n),
+            narrow: drawn::around(r, 2 * c + n),
+            out: drawn::around(r, 48 + c),
             answers: if r.below(40) == 0 { 0 } else { 1 },
-            ..fit
+            hashes,
         }
     }
     fn ours(c: &Case) -> Answer {

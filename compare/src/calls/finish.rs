@@ -36,7 +36,7 @@ impl Answer {
 }
 
 /// An arena with what its finish needs, less so much.
-pub fn fit(arena: Vec<u8>, out: usize, wide: usize, narrow: usize) -> Case {
+fn fit(arena: Vec<u8>, out: usize, wide: usize, narrow: usize) -> Case {
     let n = paper::walk(&arena, 0, None, None, &mut |_, _| true).map_or(3, |w| w.0.len());
     let body = 32 + 4 * n.div_ceil(3) + 12 * n + arena.len();
     Case { out: body - out, wide: 2 * n - wide.min(2 * n), narrow: 8 * n + 8 - narrow, answers: 1, arena }

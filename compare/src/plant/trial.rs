@@ -237,17 +237,14 @@ fn refusals(line: &mut Line, dir: &Path) {
     stopped(line, &["sample", index], index);
     stopped(line, &["sample", here, "65537"], "65537");
     stopped(line, &["sample", here, "x"], "KEYS");
-    for words in [&["what"][..], &[], &["stack", "x"], &["bench", "get", "x"]] {
+    for words in [&["what"][..], &[], &["stack", "x"], &["bench", "get", "x"], &["compare", "1", "1", "", "1", "x"]] {
         stopped(line, words, "usage");
     }
-    for command in ["compare", "sizes"] {
-        stopped(line, &[command, "1", "1", "", "1", "x"], "usage");
-        stopped(line, &[command, "x"], "SEED");
-        stopped(line, &[command, "1", "1", "", "x"], "JOBS");
-        stopped(line, &[command, "1", "1", "", "0"], "JOBS");
-    }
+    stopped(line, &["compare", "x"], "SEED");
     stopped(line, &["compare", "1", "x"], "CASES");
     stopped(line, &["compare", "1", "1", "what"], "kiban_mix");
+    stopped(line, &["compare", "1", "1", "", "x"], "JOBS");
+    stopped(line, &["compare", "1", "1", "", "0"], "JOBS");
     stopped(line, &["bench", "what"], "finish");
     stopped(line, &["oracle"], "selfcheck");
     stopped(line, &["oracle", "what"], "selfcheck");
@@ -259,18 +256,6 @@ fn refusals(line: &mut Line, dir: &Path) {
     stopped(line, &["oracle", "filter-file", data, none], "no whole number of u64");
     stopped(line, &["oracle", "filter-file", hashes, here], here);
     stopped(line, &["oracle", "vectors", "1", here, "1"], here);
-}
-
-/// Four sizes on two threads, of which none differs; and sizes that are none.
-fn sizes(line: &mut Line) {
-    let said = tool(&["sizes", "7", "5", "8", "2"]).filter(|o| o.status.success());
-    let fine = said.is_some_and(|o| o.stdout.ends_with(b"\n8 cases, 0 differ\n"));
-    line.count(fine, || "beside sizes 7 5 8 2: 0 and 8 cases wanted, none of which differs".into());
-    for (from, to) in [("0", "1"), ("2", "1"), ("1", "65537"), ("65537", "65537")] {
-        stopped(line, &["sizes", "1", from, to], "FROM and TO are sizes from 1 to 65536");
-    }
-    stopped(line, &["sizes", "1", "x"], "FROM");
-    stopped(line, &["sizes", "1", "1", "x"], "TO");
 }
 
 /// Every run of the tool.
@@ -289,7 +274,6 @@ pub fn check() -> Line {
         hashes(line, small);
         misplaced(line, small);
         refusals(line, small);
-        sizes(line);
         unheard(line, &["--help"]);
         unheard(line, &["hashes", &path(small, FILES[2])]);
         let questions = line.numbers.remove(&0).unwrap_or(0);

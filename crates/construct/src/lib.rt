@@ -2,6 +2,7 @@
 pub mod attempt;
 pub mod group;
 pub mod keys;
+pub mod pilot;
 pub mod place;
 pub mod places;
 pub mod seat;

@@ -1,4 +1,4 @@
--- Laws of building: the checks, the plan, the attempts and the bytes, as the code goes through them. Assumes nothing.
+-- Laws of building: the checks, the plan, the attempts, the closing check and the bytes, as the code goes through them. Assumes nothing.
 use mathlib.Core.Path.{◌≡◌, refl, sym, ap, ◌∙◌, subst}
 use mathlib.Core.Bool.{Bool, true, false, cond}
 use mathlib.Core.Logic.{inl, inr}
@@ -19,6 +19,7 @@ use Rattle.words.proofs.PartLaws.{splice_before, splice_back}
 use Rattle.mixing.specs.Mixing.{mix_of}
 use Rattle.fuse.specs.declared.Sizes.{Sizes}
 use Rattle.fuse.specs.Positions.{cells_in, Usable}
+use Rattle.fuse.specs.Asking.{contains_of}
 use Rattle.fuse.specs.Layout.{positive_bytes, fuse_header}
 use Rattle.fuse.proofs.HeaderLaws.{header_length}
 use Rattle.sizing.specs.declared.Plan.{Plan}
@@ -29,12 +30,12 @@ use Rattle.sizing.proofs.SizedLaws.{plan_zero, plan_least, plan_sizes, plan_usab
 use Rattle.sort.specs.Sort.{sorted}
 use Rattle.sort.specs.Twins.{repeats_next}
 use Rattle.sort.proofs.SortLaws.{length_sorted}
-use Rattle.peel.specs.Peel.{cells_laid, AttemptPost}
-use Rattle.peel.proofs.AttemptLaws.{cells_length}
+use Rattle.peel.specs.Peel.{succeeds, cells_laid, AttemptPost}
+use Rattle.peel.proofs.AttemptLaws.{check_never_fails, cells_length}
 use Rattle.filter.specs.declared.Built.{Built}
 use Rattle.filter.specs.declared.Built.TheVariants.{Positive, Fuse, Refused}
-use Rattle.filter.specs.Building.{cells_for, build_causes, build_refusal, peels_by, seed_by, first_attempt, seeded, by_attempt, by_plan, built_of, unless_refused, build_of, unless_stopped, BuildPost}
-use Rattle.filter.specs.Inner.Building.{Roomy, cells_by, Spaced, CellsPost, made_by, MakePost, LayPost}
+use Rattle.filter.specs.Building.{cells_for, build_causes, build_refusal, peels_by, seed_by, first_attempt, seeded, by_attempt, by_plan, built_of, unless_refused, build_of, out_by, hashes_by, space_by, BuildPost}
+use Rattle.filter.specs.Inner.Building.{Roomy, attempt_number, cells_by, Spaced, SearchPost, CellsPost, Missing, made_by, MakePost, LayPost}
 
 -- ---- the plan
 
@@ -104,7 +105,7 @@ seed_fails false x e = refl
 
 module _ (s : Sizes) (hs : List ℕ) where
   seed_by_lem : (i : ℕ) (b : Bool) → peels_by s hs (i + 1) ≡ b → seed_by s hs i ≡ cond b (some (mix_of (i + 1))) none
-  seed_by_lem i b t = rw t
+  seed_by_lem i b t = ap (λ (x : Bool). cond x (some (mix_of (i + 1))) none) t
 
   -- the first i attempts failed
   abbrev pub Searching : ℕ → Type 0
@@ -161,26 +162,74 @@ module _ (s : Sizes) (hs : List ℕ) where
             ap (peels_by s hs) (sym k) ∙ seed_fails _ _ (least_before (seed_by s hs) 100 0 i seed e (j - 1) (omega arith) (omega arith));
       }
 
--- attempt i + 1, where the first i failed
-module _ (s : Sizes) (hs : List ℕ) (i : ℕ) (S : Searching s hs i) (l : i < 100) {before after : List ℕ} {seed : ℕ} {r : Bool} (e : seed ≡ mix_of (i + 1))
-    (T : AttemptPost s.segment s.count seed hs before after r) where
+module _ (s : Sizes) (hs before after : List ℕ) (seed i : ℕ) (r : Bool) (T : AttemptPost s.segment s.count seed hs before after r) (e : seed ≡ mix_of (i + 1)) where
   tried_peels : r ≡ peels_by s hs (i + 1)
-  tried_peels = rw (← e) T.answer
+  tried_peels = T.answer ∙ ap (λ (x : ℕ). succeeds s.segment s.count x hs) e
 
-  tried_cells : after ≡ cond r (cells_laid s.segment s.count seed hs) before
-  tried_cells = rw T.answer T.cells
+  pub tried_hit : Searching s hs i → i < 100 → r ≡ true → (cells : List ℕ) → SearchPost s hs cells after (i + 1)
+  tried_hit S l t cells = record {
+    first = ap attempt_number (sym (searching_hit s hs i S l (sym tried_peels ∙ t)));
+    cells =
+        T.cells ∙ ap (λ (b : Bool). cond b (cells_laid s.segment s.count seed hs) before) (sym T.answer ∙ t)
+        ∙ ap (λ (x : ℕ). cells_laid s.segment s.count x hs) e
+        ∙ ap (λ (o : Option (ℕ × ℕ)). cells_by (by_attempt s o) hs cells) (sym (searching_hit s hs i S l (sym tried_peels ∙ t)));
+  }
 
-  -- it peels every hash
-  pub tried_hit : r ≡ true → (cells : List ℕ) → CellsPost s hs cells after (Fuse (seeded s seed))
-  tried_hit t cells = record { answer = rw (e, searching_hit s hs i S l (sym tried_peels ∙ t)); cells = rw t at tried_cells }
+  pub tried_miss : Searching s hs i → i < 100 → r ≡ false → Searching s hs (i + 1) × (after ≡ before)
+  tried_miss S l f = (
+    searching_miss s hs i S l (sym tried_peels ∙ f),
+    T.cells ∙ ap (λ (b : Bool). cond b (cells_laid s.segment s.count seed hs) before) (sym T.answer ∙ f),
+  )
 
-  -- it fails
-  pub tried_miss : r ≡ false → Searching s hs (i + 1) × (after ≡ before)
-  tried_miss f = (searching_miss s hs i S l (sym tried_peels ∙ f), rw f at tried_cells)
+-- ---- built over the cells
 
 -- all attempts failed
-pub tried_none : (s : Sizes) (hs before after : List ℕ) (i : ℕ) → Searching s hs i → 100 ≤ i → after ≡ before → CellsPost s hs before after Positive
-tried_none s hs before after i S l e = record { answer = rw (searching_end s hs i S l); cells = e }
+pub tried_none : (s : Sizes) (hs before after : List ℕ) (i : ℕ) → Searching s hs i → 100 ≤ i → after ≡ before → SearchPost s hs before after 0
+tried_none s hs before after i S l e =
+    let n = searching_end s hs i S l in
+    record { first = ap attempt_number (sym n); cells = e ∙ ap (λ (o : Option (ℕ × ℕ)). cells_by (by_attempt s o) hs before) (sym n) }
+
+module _ (s : Sizes) (hs before after : List ℕ) (i : ℕ) (S : SearchPost s hs before after i) where
+  none_found : i ≡ 0 → first_attempt s hs ≡ none
+  none_found z = go (first_attempt s hs) S.first
+    where
+      go : (o : Option (ℕ × ℕ)) → i ≡ attempt_number o → o ≡ none
+      go none e = refl
+      go (some (j, a)) e = absurd (omega arith)
+
+  pub construct_none : i ≡ 0 → CellsPost s hs before after Positive
+  construct_none z = record {
+    answer = ap (by_attempt s) (sym (none_found z));
+    cells = S.cells ∙ ap (λ (o : Option (ℕ × ℕ)). cells_by (by_attempt s o) hs before) (none_found z);
+  }
+
+  module _ (not-zero : i ≡ 0 → ⊥) (seed : ℕ) (e : seed ≡ mix_of i) where
+    found : (j : ℕ) × (first_attempt s hs ≡ some (j, seed)) × (peels_by s hs i ≡ true)
+    found = go (first_attempt s hs) refl
+      where
+        go : (o : Option (ℕ × ℕ)) → first_attempt s hs ≡ o → (j : ℕ) × (first_attempt s hs ≡ some (j, seed)) × (peels_by s hs i ≡ true)
+        go none q = absurd (not-zero (S.first ∙ ap attempt_number q))
+        go (some (j, a)) q =
+            let F = attempt_some s hs j a q in
+            let k : i ≡ j + 1 = S.first ∙ ap attempt_number q in
+            (j, q ∙ ap (λ (x : ℕ). some (j, x)) (sym F.seed_mixed ∙ ap mix_of (sym k) ∙ sym e), ap (peels_by s hs) k ∙ F.peels)
+
+    cells_are : after ≡ cells_laid s.segment s.count seed hs
+    cells_are = S.cells ∙ ap (λ (o : Option (ℕ × ℕ)). cells_by (by_attempt s o) hs before) found.1
+
+    pub construct_some : CellsPost s hs before after (Fuse (seeded s seed))
+    construct_some = record { answer = ap (by_attempt s) (sym found.1); cells = cells_are }
+
+    -- the closing check never fails
+    pub construct_check : Usable s.segment s.count → Missing after (seeded s seed) hs → ⊥
+    construct_check u m =
+        let t : succeeds s.segment s.count seed hs ≡ true =
+        ap (λ (x : ℕ). succeeds s.segment s.count x hs) e ∙ found.2 in
+        let y : contains_of after (seeded s seed) m.hash ≡ true =
+        ap (λ (c : List ℕ). contains_of c (seeded s seed) m.hash) cells_are ∙ check_never_fails (seeded s seed) u hs t m.hash m.given in
+        let n = m.absent in
+        let z : true ≡ false = sym y ∙ n in
+        let w : ◌≡◌ {A = ℕ} 0 1 = cc in omega arith
 
 -- ---- the output
 
@@ -197,11 +246,11 @@ module _ (hs out : List ℕ) where
     where
       go : (p : Plan) → by_plan p hs ≡ Positive
       go plan.Positive = refl
-      go (plan.Fuse s) = rw t
+      go (plan.Fuse s) = ap (λ (b : Bool). cond b Positive (by_attempt s (first_attempt s hs))) t
 
   pub made_none : plan_of (length hs) ≡ plan.Positive → MakePost hs out out Positive
   unfolding by_plan
-  made_none e = record { answer = rw e; output = refl }
+  made_none e = record { answer = ap (λ (p : Plan). by_plan p hs) (sym e); output = refl }
 
   pub made_some : (s : Sizes) → plan_of (length hs) ≡ plan.Fuse s → repeats_next hs ≡ false → (c : ℕ) → c ≡ cells_for (length hs) → (cells : List ℕ) (r : Built)
       → length cells ≡ length (take (48 + c - 48) (drop 48 out)) → 48 + cells_for (length hs) ≤ length out
@@ -209,7 +258,8 @@ module _ (hs out : List ℕ) where
   unfolding by_plan
   made_some s e f c ec cells r l room C = record {
     answer =
-        rw (e, f) C.answer;
+        C.answer ∙ sym (ap (λ (b : Bool). cond b Positive (by_attempt s (first_attempt s hs))) f)
+        ∙ ap (λ (p : Plan). by_plan p hs) (sym e);
     output = made_part r hs out cells (48 + c - 48) (l ∙ mid_len 48 (48 + c) out (omega arith)) C.cells;
   }
 
@@ -276,10 +326,18 @@ sizes_of_lem n hs b (tried k t) f e l = go (first_attempt (sizes_of n) hs) e
 
 module _ (hs out mid : List ℕ) (b : Built) (M : MakePost hs out mid b) where
   pub lay_positive : b ≡ Positive → (after : List ℕ) → after ≡ splice mid 0 positive_bytes → LayPost hs out after b
-  lay_positive e after p = record { answer = M.answer; output = rw e (p ∙ ap (λ (t : List ℕ). splice t 0 positive_bytes) (rw e at M.output)) }
+  lay_positive e after p = record {
+    answer = M.answer;
+    output =
+        p ∙ ap (λ (t : List ℕ). splice t 0 positive_bytes) (M.output ∙ ap (λ (x : Built). made_by x hs out) e)
+        ∙ ap (λ (x : Built). out_by x hs out) (sym e);
+  }
 
   pub lay_refused : (r : ℕ) → b ≡ Refused r → LayPost hs out mid b
-  lay_refused r e = record { answer = M.answer; output = rw e (rw e at M.output) }
+  lay_refused r e = record {
+    answer = M.answer;
+    output = M.output ∙ ap (λ (x : Built). made_by x hs out) e ∙ ap (λ (x : Built). out_by x hs out) (sym e);
+  }
 
   module _ (s : Sizes) (e : b ≡ Fuse s) (l : length hs < 2 ^ 64) where
     pub lay_usable : Usable s.segment s.count
@@ -292,18 +350,12 @@ module _ (hs out mid : List ℕ) (b : Built) (M : MakePost hs out mid b) where
     lay_fuse room after p = record {
       answer = sym e ∙ M.answer;
       output =
-          p ∙ ap (λ (t : List ℕ). splice t 0 (fuse_header s)) (rw e at M.output)
+          p ∙ ap (λ (t : List ℕ). splice t 0 (fuse_header s)) (M.output ∙ ap (λ (x : Built). made_by x hs out) e)
           ∙ splice_before out (fuse_header s) 48 (cells_laid s.segment s.count s.seed hs) (header_length s)
           (omega (arith, cells_length s.segment s.count s.seed hs, lay_cells));
     }
 
 -- ---- the call
-
--- where nothing is refused, what comes after is left
-pub unstopped : (b : Built) → ((r : ℕ) → b ≡ Refused r → ⊥) → (before after : List ℕ) → after ≡ unless_stopped b before after
-unstopped Positive n before after = refl
-unstopped (Fuse s) n before after = refl
-unstopped (Refused r) n before after = absurd (n r refl)
 
 module _ (hashes wide narrow out : List ℕ) where
   refused_by : (number : ℕ) → (number ≡ 0 → ⊥) → (b : Built) → Refused number ≡ unless_refused number b
@@ -313,13 +365,21 @@ module _ (hashes wide narrow out : List ℕ) where
   pub build_stopped : (number : ℕ) → number ≡ build_refusal (length hashes) (length wide) (length narrow) (length out) → (number ≡ 0 → ⊥)
       → BuildPost hashes wide narrow out (Refused number) hashes wide narrow out
   unfolding build_of
-  build_stopped number e n = record {
-    answer = refused_by number n (built_of hashes) ∙ ap (λ (k : ℕ). unless_refused k (built_of hashes)) e;
-    hashes_after = refl;
-    wide_after = refl;
-    narrow_after = refl;
-    out_after_is = refl;
-  }
+  build_stopped number e n =
+      let a : Refused number ≡ unless_refused (build_refusal (length hashes) (length wide) (length narrow) (length out)) (built_of hashes) =
+      refused_by number n (built_of hashes) ∙ ap (λ (k : ℕ). unless_refused k (built_of hashes)) e in
+      record {
+        answer = a;
+        hashes_after = ap (λ (b : Built). hashes_by b hashes) a;
+        wide_after = ap (λ (b : Built). space_by b wide) a;
+        narrow_after = ap (λ (b : Built). space_by b narrow) a;
+        out_after_is = ap (λ (b : Built). out_by b (sorted hashes) out) a;
+      }
+
+  kept : (b : Built) → ((r : ℕ) → b ≡ Refused r → ⊥) → (sorted hashes ≡ hashes_by b hashes) × ((space : List ℕ) → replicate (length space) 0 ≡ space_by b space)
+  kept Positive n = (refl, λ space. refl)
+  kept (Fuse s) n = (refl, λ space. refl)
+  kept (Refused r) n = absurd (n r refl)
 
   pub build_done : build_refusal (length hashes) (length wide) (length narrow) (length out) ≡ 0
       → (r : Built) (hashes' wide' narrow' out' : List ℕ) → hashes' ≡ sorted hashes → LayPost hashes' out out' r
@@ -327,12 +387,18 @@ module _ (hashes wide narrow out : List ℕ) where
       → BuildPost hashes wide narrow out r hashes' wide' narrow' out'
   unfolding build_of built_of
   build_done z r hashes' wide' narrow' out' es L ew en =
-      let b : r ≡ by_plan (plan_of (length hashes)) (sorted hashes) = rw (← length_sorted hashes, ← es) L.answer in
-      let k = unstopped r (λ q e. not_refused (length hashes) (sorted hashes) _ (way (length hashes) (sorted hashes)) q (sym b ∙ e)) in
+      let b : r ≡ by_plan (plan_of (length hashes)) (sorted hashes) =
+      L.answer ∙ ap (λ (xs : List ℕ). by_plan (plan_of (length xs)) xs) es
+      ∙ ap (λ (n : ℕ). by_plan (plan_of n) (sorted hashes)) (length_sorted hashes) in
+      let a : r ≡ unless_refused (build_refusal (length hashes) (length wide) (length narrow) (length out)) (by_plan (plan_of (length hashes)) (sorted hashes)) =
+      b ∙ ap (λ (k : ℕ). unless_refused k (by_plan (plan_of (length hashes)) (sorted hashes))) (sym z) in
+      let n : (q : ℕ) → r ≡ Refused q → ⊥ =
+      λ q e. not_refused (length hashes) (sorted hashes) _ (way (length hashes) (sorted hashes)) q (sym b ∙ e) in
+      let k = kept r n in
       record {
-        answer = rw z b;
-        hashes_after = es ∙ k _ _;
-        wide_after = ew ∙ k _ _;
-        narrow_after = en ∙ k _ _;
-        out_after_is = rw es at L.output;
+        answer = a;
+        hashes_after = es ∙ k.0 ∙ ap (λ (x : Built). hashes_by x hashes) a;
+        wide_after = ew ∙ k.1 wide ∙ ap (λ (x : Built). space_by x wide) a;
+        narrow_after = en ∙ k.1 narrow ∙ ap (λ (x : Built). space_by x narrow) a;
+        out_after_is = L.output ∙ ap (λ (x : Built). out_by x hashes' out) a ∙ ap (λ (xs : List ℕ). out_by (unless_refused (build_refusal (length hashes) (length wide) (length narrow) (length out)) (by_plan (plan_of (length hashes)) (sorted hashes))) xs out) es;
       }

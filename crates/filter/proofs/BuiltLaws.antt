@@ -1,5 +1,5 @@
 -- What building promises: each number, and Positive, exactly for its causes; a filter has the right sizes and keys, is read as what was built,
--- has each hash in its cells, and never calls one of its hashes absent. Assumes nothing.
+-- and never calls one of its hashes absent; the closing check never fails; two results coincide. Assumes nothing.
 use mathlib.Core.Path.{◌≡◌, refl, sym, ap, ◌∙◌, subst}
 use mathlib.Core.Bool.{true}
 use mathlib.Core.List.{List, [], ◌∷◌, ◌++◌}
@@ -25,16 +25,16 @@ use Rattle.sort.specs.Sort.{sorted}
 use Rattle.sort.proofs.TwinLaws.{sorted_doubles}
 use Rattle.sort.proofs.SortLaws.{count_sorted}
 use Rattle.peel.specs.Peel.{succeeds, cells_laid}
-use Rattle.peel.proofs.AttemptLaws.{hashes_laid, cells_length}
+use Rattle.peel.proofs.AttemptLaws.{check_never_fails, cells_length}
 use Rattle.filter.specs.declared.SstFilter.TheVariants as read
 use Rattle.filter.specs.declared.Asked.TheVariants.{Maybe}
 use Rattle.filter.specs.declared.Built.{Built}
 use Rattle.filter.specs.declared.Built.TheVariants.{Positive, Fuse, Refused}
 use Rattle.filter.specs.Reading.{read_of, positive, fuse}
 use Rattle.filter.specs.Asking.{ask_of}
-use Rattle.filter.specs.Building.{build_causes, build_refusal, first_attempt, seeded, by_attempt, built_of, unless_refused, build_of, built_refusal, written_by, length_by, built_values, BuildPost, WhyPositive, no_hashes, equal_hashes, no_attempt, FilterOf, as_read}
+use Rattle.filter.specs.Building.{build_causes, build_refusal, first_attempt, seeded, by_attempt, built_of, unless_refused, build_of, built_refusal, written_by, length_by, built_values, out_by, BuildPost, WhyPositive, no_hashes, equal_hashes, no_attempt, FilterOf, as_read}
 use Rattle.filter.proofs.ExactLaws.{layout_reads, positive_asks, fuse_asks}
-use Rattle.filter.proofs.BuildingLaws.{attempt_none, none_attempt, attempt_some, roomy, Way, empty, double, tried, way, not_refused, unstopped}
+use Rattle.filter.proofs.BuildingLaws.{attempt_none, none_attempt, attempt_some, roomy, Way, empty, double, tried, way, not_refused}
 
 built_way : (hashes : List ℕ) → Way (length hashes) (sorted hashes) (built_of hashes)
 unfolding built_of
@@ -110,10 +110,10 @@ module _ (hashes : List ℕ) (s : Sizes) (F : FilterOf hashes s) (few : length h
   filter_seed : s.seed < 2 ^ 64
   filter_seed = subst (λ (x : Sizes). x.seed < 2 ^ 64) (sym F.sizes) (mix_of_lt F.attempt)
 
-  -- each hash is in its cells
-  pub filter_holds : (hash : ℕ) → 1 ≤ occurs hash hashes → contains_of (cells_laid s.segment s.count s.seed (sorted hashes)) s hash ≡ true
-  filter_holds hash k =
-      hashes_laid s filter_usable (sorted hashes)
+  -- the closing membership check never fails
+  pub closing_check : (hash : ℕ) → 1 ≤ occurs hash hashes → contains_of (cells_laid s.segment s.count s.seed (sorted hashes)) s hash ≡ true
+  closing_check hash k =
+      check_never_fails s filter_usable (sorted hashes)
       (subst (λ (x : Sizes). succeeds x.segment x.count x.seed (sorted hashes) ≡ true) (sym F.sizes) F.peels) hash (omega (arith, count_sorted hash hashes))
 
 -- ---- the bytes written
@@ -123,6 +123,12 @@ written_length Positive hs n = positive_length
 written_length (Fuse s) hs n =
     omega (arith, length-append (fuse_header s) (cells_laid s.segment s.count s.seed hs), header_length s, cells_length s.segment s.count s.seed hs)
 written_length (Refused r) hs n = absurd (n r refl)
+
+written_by_lem : (b : Built) (hs out : List ℕ) → ((q : ℕ) → b ≡ Refused q → ⊥) → take (length_by b) (out_by b hs out) ≡ written_by b hs
+written_by_lem Positive hs out n = ap (take 48) (splice_front out positive_bytes) ∙ take_at positive_bytes _ 48 positive_length
+written_by_lem (Fuse s) hs out n =
+    ap (take (length_by (Fuse s))) (splice_front out (written_by (Fuse s) hs)) ∙ take_at (written_by (Fuse s) hs) _ (length_by (Fuse s)) (written_length (Fuse s) hs n)
+written_by_lem (Refused r) hs out n = absurd (n r refl)
 
 module _ (hashes : List ℕ) (few : length hashes ≤ most_hashes) where
   reads_by : (b : Built) → built_of hashes ≡ b → ((q : ℕ) → b ≡ Refused q → ⊥) → read_of (written_by b (sorted hashes)) ≡ as_read b
@@ -139,7 +145,7 @@ module _ (hashes : List ℕ) (few : length hashes ≤ most_hashes) where
   asks_by (Fuse s) e n hash k =
       let F = built_filter hashes few s e in
       fuse_asks s (cells_laid s.segment s.count s.seed (sorted hashes)) (filter_accepted hashes s F few) (filter_seed hashes s F few) hash
-      ∙ rw (filter_holds hashes s F few hash k)
+      ∙ rw (closing_check hashes s F few hash k)
   asks_by (Refused r) e n hash k = absurd (n r refl)
 
 -- ---- the call
@@ -217,8 +223,7 @@ module _ {hashes wide narrow out : List ℕ} {r : Built} {hashes' wide' narrow' 
     -- the bytes in front of the output
     pub written : take (length_by r) out' ≡ written_by r (sorted hashes)
     written =
-        ap (take (length_by r)) (P.out_after_is ∙ sym (unstopped r n out _) ∙ splice_front out (written_by r (sorted hashes)))
-        ∙ take_at (written_by r (sorted hashes)) _ (length_by r) (written_length r (sorted hashes) n)
+        ap (take (length_by r)) (P.out_after_is ∙ ap (λ (b : Built). out_by b (sorted hashes) out) (sym P.answer)) ∙ written_by_lem r (sorted hashes) out n
 
     -- its value is how many they are
     pub built_values_is : built_values r ≡ length (take (length_by r) out') ∷ []

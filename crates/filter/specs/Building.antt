@@ -107,20 +107,31 @@ built_values Positive = length_by Positive ∷ []
 built_values (Fuse s) = length_by (Fuse s) ∷ []
 built_values (Refused r) = []
 
--- a lent list: as it was where the call is refused
-abbrev pub unless_stopped : Built → (before after : List ℕ) → List ℕ
-unless_stopped Positive before after = after
-unless_stopped (Fuse s) before after = after
-unless_stopped (Refused r) before after = before
+-- the output: they stand in front of what stood there; refused, it is as it was
+abbrev pub out_by : Built → (hashes out : List ℕ) → List ℕ
+out_by Positive hashes out = splice out 0 (written_by Positive hashes)
+out_by (Fuse s) hashes out = splice out 0 (written_by (Fuse s) hashes)
+out_by (Refused r) hashes out = out
 
--- what a call of build promises: its answer; and unless it is refused, the hashes sorted, both workspaces zero, surplus too, and the filter in
--- front of the output, whose rest is as it was
+-- the hashes: sorted, unless refused
+abbrev pub hashes_by : Built → (hashes : List ℕ) → List ℕ
+hashes_by Positive hashes = sorted hashes
+hashes_by (Fuse s) hashes = sorted hashes
+hashes_by (Refused r) hashes = hashes
+
+-- a workspace: zero, surplus too, unless refused
+abbrev pub space_by : Built → (space : List ℕ) → List ℕ
+space_by Positive space = replicate (length space) 0
+space_by (Fuse s) space = replicate (length space) 0
+space_by (Refused r) space = space
+
+-- what a call of build promises
 pub record BuildPost (hashes wide narrow out : List ℕ) (r : Built) (hashes' wide' narrow' out' : List ℕ) : Type 0 where
   pub answer : r ≡ build_of hashes (length wide) (length narrow) (length out)
-  pub hashes_after : hashes' ≡ unless_stopped r hashes (sorted hashes)
-  pub wide_after : wide' ≡ unless_stopped r wide (replicate (length wide) 0)
-  pub narrow_after : narrow' ≡ unless_stopped r narrow (replicate (length narrow) 0)
-  pub out_after_is : out' ≡ unless_stopped r out (splice out 0 (written_by r (sorted hashes)))
+  pub hashes_after : hashes' ≡ hashes_by (build_of hashes (length wide) (length narrow) (length out)) hashes
+  pub wide_after : wide' ≡ space_by (build_of hashes (length wide) (length narrow) (length out)) wide
+  pub narrow_after : narrow' ≡ space_by (build_of hashes (length wide) (length narrow) (length out)) narrow
+  pub out_after_is : out' ≡ out_by (build_of hashes (length wide) (length narrow) (length out)) (sorted hashes) out
 
 -- ---- what is promised of an answer
 

@@ -1,7 +1,8 @@
-// Building a filter over lent workspace: the checks, the attempts, the bytes.
-ghost use Rattle.std.specs.Prelude.{◌≡◌, length};
+// Building a filter over lent workspace: the checks, the attempts, the closing check, the bytes.
+ghost use Rattle.std.specs.Prelude.{false, ◌≡◌, length};
+ghost use Rattle.fuse.specs.Positions.{FitsCells};
 ghost use Rattle.filter.specs.Building.{cells_for, build_refusal};
-ghost use Rattle.filter.specs.Inner.Building.{Roomy, Spaced, CellsPost, MakePost, LayPost};
+ghost use Rattle.filter.specs.Inner.Building.{Roomy, Spaced, SearchPost, CellsPost, Missing, MakePost, LayPost};
 
 use super::Built;
 use fuse::{Sizes, header};
@@ -40,16 +41,10 @@ pub fn refusal(n: usize, wide: usize, narrow: usize, out: usize) -> u8
     0
 }
 
-// A filter built over its cells, which the first of the attempts that peels every hash fills; Positive where none does.
-fn construct(
-    hashes: &[u64],
-    wide: &mut [u64],
-    narrow: &mut [u32],
-    cells: &mut [u8],
-    s: Sizes,
-) -> Built
+// The first of the attempts that peels every hash, 0 if none does; it fills the cells.
+fn search(hashes: &[u64], wide: &mut [u64], narrow: &mut [u32], cells: &mut [u8], s: Sizes) -> u64
     requires { Spaced s (length hashes.now) (length wide.old) (length narrow.old) (length cells.old) }
-    ensures { CellsPost s hashes.now cells.old cells.new result }
+    ensures { SearchPost s hashes.now cells.old cells.new result }
 {
     let mut i: u64 = 0;
     while i < Built::ATTEMPTS {
@@ -60,14 +55,51 @@ fn construct(
             cells: cells.len(),
         };
         if peel::attempt(hashes, wide, narrow, cells, g) {
-            return Built::Fuse(Sizes {
-                keys: s.keys,
-                seed: g.seed,
-                segment: s.segment,
-                count: s.count,
-            });
+            return i + 1;
         }
         i += 1;
+    }
+    0
+}
+
+// The closing membership check: whether every hash is in the cells.
+fn all_present(hashes: &[u64], cells: &[u8], s: Sizes) -> bool
+    requires { FitsCells s.segment s.count (length cells.now) }
+    ensures { result ≡ false → Missing cells.now s hashes.now }
+{
+    let mut i = 0;
+    while i < hashes.len() {
+        if !fuse::contains(cells, s, hashes[i]) {
+            return false;
+        }
+        i += 1;
+    }
+    true
+}
+
+// A filter built over its cells, or Positive where no attempt peels every hash.
+fn construct(
+    hashes: &[u64],
+    wide: &mut [u64],
+    narrow: &mut [u32],
+    cells: &mut [u8],
+    s: Sizes,
+) -> Built
+    requires { Spaced s (length hashes.now) (length wide.old) (length narrow.old) (length cells.old) }
+    ensures { CellsPost s hashes.now cells.old cells.new result }
+{
+    let i = search(hashes, wide, narrow, cells, s);
+    if i == 0 {
+        return Built::Positive;
+    }
+    let f = Sizes {
+        keys: s.keys,
+        seed: mixing::mix(i),
+        segment: s.segment,
+        count: s.count,
+    };
+    if all_present(hashes, cells, f) {
+        return Built::Fuse(f);
     }
     Built::Positive
 }

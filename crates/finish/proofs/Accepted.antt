@@ -20,7 +20,7 @@ use Rattle.words.specs.Field.{AllBytes}
 use Rattle.mixing.specs.Mixing.{hash_of, fingerprint_of, seed_of, bucket_of, bucket_of_lt, seed_of_lt}
 use Rattle.mixing.proofs.SlotLaws.{some_buckets}
 use Rattle.layout.specs.Layout.{index_magic, seed_in, keys_in, buckets_in, arena_in, header_refusal, pilot_at, direct_past, pilot_of, slot_of, slot_place, record_offset, fingerprint_wide}
-use Rattle.layout.proofs.HeaderLaws.{seed_read, keys_read, buckets_read, start_read, header_fine}
+use Rattle.layout.proofs.HeaderLaws.{passes, seed_read, keys_read, buckets_read, start_read, header_fine}
 use Rattle.records.specs.declared.DataLength.TheVariants.{Untested}
 use Rattle.records.specs.declared.Limit.{Limit}
 use Rattle.records.specs.Model.{Entry, table_bytes, lookup}
@@ -42,11 +42,11 @@ use Rattle.point.specs.Table as table
 use Rattle.point.proofs.Theorems.{accepts, get_is_lookup}
 use Rattle.finish.specs.declared.Finished.TheVariants.{Body}
 use Rattle.finish.specs.Body.{arena_start, header_bytes, pilots_bytes, slot_bytes, held_slot, slots_bytes, body_bytes, placed_of, body_from, body_of}
-use Rattle.finish.specs.Finish.{walked, keys_of, lengths_refusal, finish_refusal, answered, body_length, finish_of}
-use Rattle.finish.specs.Inner.Needs.{placing_refusal}
+use Rattle.finish.specs.Finish.{walked, keys_of, untaken, lengths_refusal, placing_refusal, finish_refusal, answered, body_length, finish_of}
 use Rattle.finish.proofs.LengthLaws.{Lengths, lengths}
 use Rattle.finish.proofs.BodyLaws.{body_long}
-use Rattle.finish.proofs.FinishLaws.{refused_by, hash_at, placed_whole}
+use Rattle.finish.proofs.FinishLaws.{refused_by, hash_at}
+use Rattle.finish.proofs.SelfCheck.{placed_whole}
 use Rattle.finish.proofs.ShiftLaws.{key_moved, entries_moved, place_moved}
 use Rattle.finish.proofs.FieldLaws.{pilot_read, offset_read, print_read, before_arena}
 
@@ -71,16 +71,17 @@ module _ (arena : List ℕ) (out wide narrow k : ℕ) where
       go (suc r) q = absurd (let z : ◌≡◌ {A = ℕ} 0 1 = cc in omega arith)
 
   pub made : finish_of arena out wide narrow ≡ Body k → Made arena
-  made e = go (placed_of arena (keys_of arena)) refl both.1
+  unfolding placing_refusal
+  made e = go (placed_of arena (keys_of arena)) refl (passes (untaken (placed_of arena (keys_of arena))) 9 _ both.1).0
     where
-      both : (lengths_refusal arena out wide narrow ≡ 0) × (placing_refusal (placed_of arena (keys_of arena)) ≡ 0)
+      both : (lengths_refusal arena out wide narrow ≡ 0) × (placing_refusal arena (keys_of arena) ≡ 0)
       both = or_else_zero _ _ (sym (refused_by arena out wide narrow) ∙ (body_answered e).0)
 
       L : Lengths (length arena) (walked arena).end (keys_of arena) out wide narrow
       L = lengths (length arena) (walked arena).end (keys_of arena) out wide narrow both.0
 
-      go : (o : Option (ℕ × Placing)) → placed_of arena (keys_of arena) ≡ o → placing_refusal o ≡ 0 → Made arena
-      go none q z = absurd (omega arith)
+      go : (o : Option (ℕ × Placing)) → placed_of arena (keys_of arena) ≡ o → untaken o ≡ false → Made arena
+      go none q z = absurd (let t : ◌≡◌ {A = ℕ} 0 1 = cc in omega arith)
       go (some (i, pl)) q z = record { attempt = i; placing = pl; taken = q; whole = L.whole; any = L.some; most = L.few }
 
 -- ---- pilots

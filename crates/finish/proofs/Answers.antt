@@ -1,16 +1,19 @@
 -- What is promised of finish's answers: each number exactly for its cause, the body's length for none; 10 exactly where each of the eight
--- attempts fails; no other number; what a refusal leaves. Assumes nothing.
+-- attempts fails; 11 never; its result is fixed. Assumes nothing.
 use Prim.Native.Nat.{ℕ, zero, suc, ◌<◌}
 use native.Mathlib.Omega.{arith}
-use mathlib.Core.Path.{◌≡◌, refl, sym, ap, ◌∙◌, subst}
-use mathlib.Core.List.{List, [], ◌∷◌, Memᴰ}
+use mathlib.Core.Path.{◌≡◌, refl, sym, ◌∙◌, subst}
+use mathlib.Core.Bool.{false≢true}
+use mathlib.Core.List.{List, [], ◌∷◌}
 use mathlib.Core.Option.{Option, none, some}
 use mathlib.Core.Logic.{◌⊎◌, inl, inr}
-use lib.ListN.{length, replicate}
-use borrow.Author.Tests.{ne_eqb}
-use Rattle.laws.specs.Each.{Each, each_none, each_more}
-use Rattle.laws.specs.Refusals.{First, FirstOfTwo, by_first_is, by_second}
-use Rattle.laws.proofs.RefusalLaws.{first_given, first_only, first_each, two_only}
+use lib.ListN.{length}
+use Rattle.laws.specs.Refusals.{cause, First}
+use Rattle.laws.proofs.RefusalLaws.{first_given, first_only}
+use Rattle.laws.specs.Refusals.First.{here, later}
+use Rattle.laws.specs.Refusals.{FirstOfTwo}
+use Rattle.laws.proofs.RefusalLaws.{two_only}
+use Rattle.laws.specs.Refusals.FirstOfTwo.{by_first_is, by_second}
 use Rattle.mixing.specs.Mixing.{seed_of}
 use Rattle.construct.specs.Construct.{Placing, attempt_of}
 use Rattle.construct.specs.Keys.{attempt_hashes}
@@ -18,13 +21,11 @@ use Rattle.construct.specs.Promised.{AttemptFails}
 use Rattle.construct.proofs.KeysLaws.{hashes_long}
 use Rattle.construct.proofs.Failing.{fails_attempt, attempt_fails}
 use Rattle.construct.proofs.Exhausting.{all_fail, none_attempted}
-use Rattle.finish.specs.declared.Finished.{Finished}
-use Rattle.finish.specs.declared.Finished.TheVariants.{Body, Refused}
 use Rattle.finish.specs.Body.{placed_of}
-use Rattle.finish.specs.Finish.{walked, keys_of, lengths_refusal, finish_causes, finish_refusal, answered, body_length, finish_of, out_after, space_after, finished_number, finished_values}
-use Rattle.finish.specs.Inner.Needs.{placing_refusal}
+use Rattle.finish.specs.Finish.{walked, keys_of, walked_causes, walked_refusal, untaken, mismatched, placing_causes, lengths_refusal, placing_refusal, finish_causes, finish_refusal, answered, body_length, finish_of, finished_number, finished_values}
 use Rattle.finish.proofs.LengthLaws.{lengths}
-use Rattle.finish.proofs.FinishLaws.{lengths_below, refused_by, refused_early, refused_late, answered_refused}
+use Rattle.finish.proofs.FinishLaws.{refused_by, refused_late}
+use Rattle.finish.proofs.SelfCheck.{check_passes}
 
 -- the number of an answer is the refusal
 number_of : (r size : ℕ) → finished_number (answered r size) ≡ r
@@ -36,40 +37,12 @@ values_of : (r size : ℕ) → r ≡ 0 → finished_values (answered r size) ≡
 values_of zero size z = refl
 values_of (suc r) size z = absurd (omega arith)
 
--- a refusal has no value, and leaves the output
-pub refused_leaves : (f : Finished) → 0 < finished_number f → (finished_values f ≡ []) × ((arena out : List ℕ) → out_after f arena out ≡ out)
-refused_leaves (Body size) o = absurd (omega arith)
-refused_leaves (Refused n) o = (refl, λ arena out. refl)
-
--- the numbers that finish answers
-abbrev OneOf : ℕ → Type 0
-OneOf n = Memᴰ n (0 ∷ 8 ∷ 5 ∷ 9 ∷ 6 ∷ 10 ∷ [])
-
 module _ (arena : List ℕ) (out wide narrow : ℕ) where
-  -- each cause has one of them
-  row_numbers : Each (λ c. OneOf c.number) (finish_causes arena out wide narrow)
-  row_numbers = each_more eight (each_more five (each_more five (each_more nine (each_more nine (each_more six (each_more ten each_none))))))
-    where
-      eight : OneOf 8
-      eight = Memᴰ.tail (Memᴰ.head refl)
-
-      five : OneOf 5
-      five = Memᴰ.tail (Memᴰ.tail (Memᴰ.head refl))
-
-      nine : OneOf 9
-      nine = Memᴰ.tail (Memᴰ.tail (Memᴰ.tail (Memᴰ.head refl)))
-
-      six : OneOf 6
-      six = Memᴰ.tail (Memᴰ.tail (Memᴰ.tail (Memᴰ.tail (Memᴰ.head refl))))
-
-      ten : OneOf 10
-      ten = Memᴰ.tail (Memᴰ.tail (Memᴰ.tail (Memᴰ.tail (Memᴰ.tail (Memᴰ.head refl)))))
-
   pub finish_number : finished_number (finish_of arena out wide narrow) ≡ finish_refusal arena out wide narrow
   unfolding finish_of
   finish_number = number_of (finish_refusal arena out wide narrow) (body_length arena (keys_of arena))
 
-  -- THEOREM: a number is answered exactly where its cause is the first that holds, in the order 8, 5, 9, 6, 10
+  -- THEOREM: a number is answered exactly where its cause is the first that holds, in the order 8, 5, 9, 6, 10, 11
   pub cause_first : (r : ℕ) → 0 < r → finished_number (finish_of arena out wide narrow) ≡ r → First r (finish_causes arena out wide narrow)
   unfolding finish_refusal
   cause_first r p e = first_only r (finish_causes arena out wide narrow) p (sym finish_number ∙ e)
@@ -83,33 +56,46 @@ module _ (arena : List ℕ) (out wide narrow : ℕ) where
   unfolding finish_of
   finish_values e = values_of (finish_refusal arena out wide narrow) (body_length arena (keys_of arena)) (sym finish_number ∙ e)
 
-  -- 10 is given past the length checks, where no attempt is taken
-  past_lengths : finished_number (finish_of arena out wide narrow) ≡ 10 → (lengths_refusal arena out wide narrow ≡ 0) × (placed_of arena (keys_of arena) ≡ none)
-  past_lengths e = go (two_only 10 _ _ (sym (refused_by arena out wide narrow) ∙ sym finish_number ∙ e))
+  -- a number above 9 is given past the length checks, by the placing
+  past_lengths : (r : ℕ) → 9 < r → finished_number (finish_of arena out wide narrow) ≡ r
+      → (lengths_refusal arena out wide narrow ≡ 0) × (placing_refusal arena (keys_of arena) ≡ r)
+  unfolding walked_refusal
+  past_lengths r l e = go (two_only r _ _ (sym (refused_by arena out wide narrow) ∙ sym finish_number ∙ e))
     where
-      unplaced : (o : Option (ℕ × Placing)) → placing_refusal o ≡ 10 → o ≡ none
-      unplaced none q = refl
-      unplaced (some x) q = absurd (omega arith)
+      other : First r (walked_causes (length arena) (walked arena).end (keys_of arena) out wide narrow) → ⊥
+      other (here h z) = omega arith
+      other (later h (here h1 z)) = omega arith
+      other (later h (later h1 (here h2 z))) = omega arith
+      other (later h (later h1 (later h2 (here h3 z)))) = omega arith
+      other (later h (later h1 (later h2 (later h3 (here h4 z))))) = omega arith
+      other (later h (later h1 (later h2 (later h3 (later h4 (here h5 z)))))) = omega arith
 
-      go : FirstOfTwo 10 (lengths_refusal arena out wide narrow) (placing_refusal (placed_of arena (keys_of arena)))
-          → (lengths_refusal arena out wide narrow ≡ 0) × (placed_of arena (keys_of arena) ≡ none)
-      go (by_first_is q) = absurd (omega (arith, lengths_below (length arena) (walked arena).end (keys_of arena) out wide narrow))
-      go (by_second z q) = (z, unplaced (placed_of arena (keys_of arena)) q)
+      go : FirstOfTwo r (lengths_refusal arena out wide narrow) (placing_refusal arena (keys_of arena))
+          → (lengths_refusal arena out wide narrow ≡ 0) × (placing_refusal arena (keys_of arena) ≡ r)
+      go (by_first_is q) = absurd (other (first_only r (walked_causes (length arena) (walked arena).end (keys_of arena) out wide narrow) (omega arith) q))
+      go (by_second z q) = (z, q)
 
   -- THEOREM: 10 exactly where nothing is refused before and each of the eight attempts fails
   pub ten_exhausts : finished_number (finish_of arena out wide narrow) ≡ 10 → (i : ℕ) → i < 8 → attempt_of (attempt_hashes arena (keys_of arena) i) ≡ none
-  unfolding placed_of
-  ten_exhausts e = all_fail (attempt_hashes arena (keys_of arena)) (past_lengths e).1
+  unfolding placing_refusal placed_of
+  ten_exhausts e =
+      all_fail (attempt_hashes arena (keys_of arena))
+      (go (placed_of arena (keys_of arena)) (first_only 10 (placing_causes arena (keys_of arena)) (omega arith) (past_lengths 10 (omega arith) e).1))
+    where
+      go : (o : Option (ℕ × Placing)) → First 10 (cause (untaken o) 10 ∷ cause (mismatched (attempt_hashes arena (keys_of arena)) o) 11 ∷ []) → o ≡ none
+      go none f = refl
+      go (some x) (here h z) = absurd (false≢true h)
+      go (some x) (later h (here h1 z)) = absurd (omega arith)
 
   pub exhausts_ten : lengths_refusal arena out wide narrow ≡ 0 → ((i : ℕ) → i < 8 → attempt_of (attempt_hashes arena (keys_of arena) i) ≡ none) → finished_number (finish_of arena out wide narrow) ≡ 10
-  unfolding placed_of
+  unfolding placing_refusal placed_of
   exhausts_ten z f = finish_number ∙ refused_late arena out wide narrow z ∙ rw (none_attempted (attempt_hashes arena (keys_of arena)) f)
 
   -- past the length checks there is a key
   some_key : lengths_refusal arena out wide narrow ≡ 0 → 0 < keys_of arena
   some_key z = (lengths (length arena) (walked arena).end (keys_of arena) out wide narrow z).some
 
-  pub some_hash : lengths_refusal arena out wide narrow ≡ 0 → (i : ℕ) → 0 < length (attempt_hashes arena (keys_of arena) i)
+  some_hash : lengths_refusal arena out wide narrow ≡ 0 → (i : ℕ) → 0 < length (attempt_hashes arena (keys_of arena) i)
   unfolding attempt_hashes
   some_hash z i = subst (λ (x : ℕ). 0 < x) (sym (hashes_long (seed_of i) arena (keys_of arena))) (some_key z)
 
@@ -118,43 +104,33 @@ module _ (arena : List ℕ) (out wide narrow : ℕ) where
   pub ten_attempts : finished_number (finish_of arena out wide narrow) ≡ 10
       → (lengths_refusal arena out wide narrow ≡ 0) × ((i : ℕ) → i < 8 → AttemptFails (attempt_hashes arena (keys_of arena) i))
   ten_attempts e =
-      let z = (past_lengths e).0 in
+      let z = (past_lengths 10 (omega arith) e).0 in
       (z, λ i l. attempt_fails (attempt_hashes arena (keys_of arena) i) (some_hash z i) (ten_exhausts e i l))
 
   pub attempts_ten : lengths_refusal arena out wide narrow ≡ 0 → ((i : ℕ) → i < 8 → AttemptFails (attempt_hashes arena (keys_of arena) i))
       → finished_number (finish_of arena out wide narrow) ≡ 10
   attempts_ten z f = exhausts_ten z (λ i l. fails_attempt (attempt_hashes arena (keys_of arena) i) (some_hash z i) (f i l))
 
-  -- THEOREM: past the length checks the answer is a body or 10
-  pub body_or_ten : lengths_refusal arena out wide narrow ≡ 0 → (finished_number (finish_of arena out wide narrow) ≡ 0) ⊎ (finished_number (finish_of arena out wide narrow) ≡ 10)
-  body_or_ten z = go (placed_of arena (keys_of arena)) (finish_number ∙ refused_late arena out wide narrow z)
+  -- THEOREM: 11 is never answered
+  pub never_eleven : finished_number (finish_of arena out wide narrow) ≡ 11 → ⊥
+  unfolding placing_refusal
+  never_eleven e =
+      let p = past_lengths 11 (omega arith) e in
+      go (some_key p.0) (placed_of arena (keys_of arena)) refl (first_only 11 (placing_causes arena (keys_of arena)) (omega arith) p.1)
     where
-      go : (o : Option (ℕ × Placing)) → finished_number (finish_of arena out wide narrow) ≡ placing_refusal o
-          → (finished_number (finish_of arena out wide narrow) ≡ 0) ⊎ (finished_number (finish_of arena out wide narrow) ≡ 10)
-      go none e = inr e
-      go (some x) e = inl e
+      go : 0 < keys_of arena → (o : Option (ℕ × Placing)) → placed_of arena (keys_of arena) ≡ o
+          → First 11 (cause (untaken o) 10 ∷ cause (mismatched (attempt_hashes arena (keys_of arena)) o) 11 ∷ []) → ⊥
+      go any o q (here h z) = omega arith
+      go any none q (later h (here h1 z)) = false≢true h1
+      go any (some (i, pl)) q (later h (here h1 z)) = false≢true (sym (check_passes arena (keys_of arena) i pl any q) ∙ h1)
 
-  -- THEOREM: no other number is answered
-  pub finish_numbers : OneOf (finished_number (finish_of arena out wide narrow))
-  finish_numbers = go (finished_number (finish_of arena out wide narrow)) refl
-    where
-      go : (n : ℕ) → finished_number (finish_of arena out wide narrow) ≡ n → OneOf n
-      go zero e = Memᴰ.head refl
-      go (suc n) e = first_each OneOf row_numbers (cause_first (suc n) (omega arith) e)
-
-  -- THEOREM: workspace is as it was at a refusal before the keys are placed, and zero after that
-  pub space_kept : (lengths_refusal arena out wide narrow ≡ 0 → ⊥) → (space : List ℕ) → space_after (finish_of arena out wide narrow) space ≡ space
-  unfolding finish_of
-  space_kept n space =
-      let below = lengths_below (length arena) (walked arena).end (keys_of arena) out wide narrow in
-      ap (λ (f : Finished). space_after f space)
-      (ap (λ (x : ℕ). answered x (body_length arena (keys_of arena))) (refused_early arena out wide narrow n) ∙ answered_refused (lengths_refusal arena out wide narrow) _ n)
-      ∙ rw (ne_eqb (lengths_refusal arena out wide narrow) 10 (λ z. omega arith))
-
-  pub space_zeroed : lengths_refusal arena out wide narrow ≡ 0 → (space : List ℕ) → space_after (finish_of arena out wide narrow) space ≡ replicate (length space) 0
-  unfolding finish_of
-  space_zeroed z space = ap (λ (x : ℕ). space_after (answered x (body_length arena (keys_of arena))) space) (refused_late arena out wide narrow z) ∙ go (placed_of arena (keys_of arena))
-    where
-      go : (o : Option (ℕ × Placing)) → space_after (answered (placing_refusal o) (body_length arena (keys_of arena))) space ≡ replicate (length space) 0
-      go none = refl
-      go (some x) = refl
+-- THEOREM: past the length checks the answer is a body or 10
+pub body_or_ten : (arena : List ℕ) (out wide narrow : ℕ) → 0 < keys_of arena → lengths_refusal arena out wide narrow ≡ 0
+    → (finished_number (finish_of arena out wide narrow) ≡ 0) ⊎ (finished_number (finish_of arena out wide narrow) ≡ 10)
+unfolding placing_refusal
+body_or_ten arena out wide narrow any z = go (placed_of arena (keys_of arena)) refl (finish_number arena out wide narrow ∙ refused_late arena out wide narrow z)
+  where
+    go : (o : Option (ℕ × Placing)) → placed_of arena (keys_of arena) ≡ o → finished_number (finish_of arena out wide narrow) ≡ placing_refusal arena (keys_of arena)
+        → (finished_number (finish_of arena out wide narrow) ≡ 0) ⊎ (finished_number (finish_of arena out wide narrow) ≡ 10)
+    go none q e = inr (e ∙ rw q)
+    go (some (i, pl)) q e = inl (e ∙ rw (q, check_passes arena (keys_of arena) i pl any q))

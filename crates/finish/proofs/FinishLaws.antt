@@ -5,22 +5,21 @@ use native.Mathlib.Omega.{arith}
 use native.Mathlib.Decide.{ℕ_discrete}
 use native.Mathlib.Numerals.{lt_of_le_of_ne}
 use mathlib.Core.Path.{◌≡◌, refl, sym, ap, ap₂, ◌∙◌, subst}
-use mathlib.Core.Bool.{Bool, true, false, cond}
+use mathlib.Core.Bool.{Bool, false, cond}
 use mathlib.Core.List.{List, [], ◌∷◌, ◌++◌}
 use mathlib.Core.Option.{Option, none, some}
 use lib.ListN.{length, get_or, take, drop, length-drop, replicate, get_or_append}
 use lib.Seq.{get_or_take, get_or_at, length-take-le}
-use lib.Dec.{lit<}
+use lib.Dec.{eqb}
 use borrow.Author.Tests.{ne_eqb}
-use Rattle.laws.specs.Each.{Each, each_none, each_more}
-use Rattle.laws.specs.Refusals.{cause, or_else, Numbered, numbered_none, numbered_more}
-use Rattle.laws.proofs.RefusalLaws.{first_append, first_only, first_each, or_else_stop}
+use Rattle.laws.specs.Refusals.{or_else, Numbered}
+use Rattle.laws.specs.Refusals.Numbered.{numbered_none, numbered_more}
+use Rattle.laws.proofs.RefusalLaws.{first_append, or_else_stop}
 use Rattle.words.specs.Field.{splice}
 use Rattle.mixing.specs.Mixing.{hash_of, seed_of}
 use Rattle.mixing.proofs.SlotLaws.{few_buckets}
 use Rattle.construct.specs.Construct.{buckets_of, Placing, construct_of}
 use Rattle.construct.specs.Keys.{arena_key, hashes_of, attempt_hashes}
-use Rattle.construct.specs.Promised.{AllPlaced, Pilots}
 use Rattle.records.specs.declared.DataLength.TheVariants.{Untested}
 use Rattle.records.specs.declared.Walked.{Walked}
 use Rattle.records.specs.Places.{entry_place}
@@ -32,13 +31,13 @@ use Rattle.construct.specs.Answer.{constructed_of, pilots_from, slots_from, pilo
 use Rattle.construct.specs.declared.Constructed.{Constructed}
 use Rattle.construct.specs.declared.Constructed.TheVariants.{Placed, Exhausted}
 use Rattle.construct.proofs.KeysLaws.{hashes_long}
-use Rattle.construct.proofs.Exhausting.{taken_whole}
 use Rattle.finish.specs.declared.Finished.{Finished}
 use Rattle.finish.specs.declared.Finished.TheVariants.{Body, Refused}
-use Rattle.finish.specs.Body.{arena_start, body_bytes, placed_of, body_of}
-use Rattle.finish.specs.Finish.{walked_causes, walked_refusal, lengths_refusal, keys_of, walked, untaken, finish_refusal, answered, body_length, finish_of, out_after, space_after, FinishPost}
-use Rattle.finish.specs.Inner.Needs.{Room, placed_as, AttemptTaken, placing_refusal, BodyPost, SlotsKnown, Filled}
+use Rattle.finish.specs.Body.{arena_start, body_bytes, placed_of, body_from, body_of}
+use Rattle.finish.specs.Finish.{walked_causes, placing_causes, walked_refusal, mismatch, placing_refusal, lengths_refusal, keys_of, walked, finish_refusal, answered, body_length, finish_of, out_after, space_after, FinishPost}
+use Rattle.finish.specs.Inner.Needs.{Room, placed_as, AttemptTaken, BodyPost, SlotsKnown, Filled}
 use Rattle.finish.proofs.LengthLaws.{Lengths, lengths}
+use Rattle.finish.proofs.CheckLaws.{all_filled}
 
 -- ---- the refusals in a row
 
@@ -47,23 +46,11 @@ numbered_lengths size end n out wide narrow =
     numbered_more (zero-lt-suc 7)
     (numbered_more (zero-lt-suc 4) (numbered_more (zero-lt-suc 4) (numbered_more (zero-lt-suc 8) (numbered_more (zero-lt-suc 8) (numbered_more (zero-lt-suc 5) numbered_none)))))
 
--- their numbers are below 10
-pub lengths_below : (size end n out wide narrow : ℕ) → walked_refusal size end n out wide narrow < 10
-unfolding walked_refusal
-lengths_below size end n out wide narrow = go (walked_refusal size end n out wide narrow) refl
-  where
-    below : Each (λ c. c.number < 10) (walked_causes size end n out wide narrow)
-    below = each_more (lit< tt) (each_more (lit< tt) (each_more (lit< tt) (each_more (lit< tt) (each_more (lit< tt) (each_more (lit< tt) each_none)))))
-
-    go : (r : ℕ) → walked_refusal size end n out wide narrow ≡ r → r < 10
-    go zero e = omega arith
-    go (suc r) e = first_each (λ x. x < 10) below (first_only (suc r) (walked_causes size end n out wide narrow) (omega arith) e)
-
 module _ (arena : List ℕ) (out wide narrow : ℕ) where
-  pub refused_by : finish_refusal arena out wide narrow ≡ or_else (lengths_refusal arena out wide narrow) (placing_refusal (placed_of arena (keys_of arena)))
-  unfolding finish_refusal walked_refusal
+  pub refused_by : finish_refusal arena out wide narrow ≡ or_else (lengths_refusal arena out wide narrow) (placing_refusal arena (keys_of arena))
+  unfolding finish_refusal walked_refusal placing_refusal
   refused_by =
-      first_append (walked_causes (length arena) (walked arena).end (keys_of arena) out wide narrow) (cause (untaken (placed_of arena (keys_of arena))) 10 ∷ [])
+      first_append (walked_causes (length arena) (walked arena).end (keys_of arena) out wide narrow) (placing_causes arena (keys_of arena))
       (numbered_lengths (length arena) (walked arena).end (keys_of arena) out wide narrow)
 
   -- a refusal before the keys are placed
@@ -71,8 +58,8 @@ module _ (arena : List ℕ) (out wide narrow : ℕ) where
   refused_early h = refused_by ∙ or_else_stop _ _ h
 
   -- and none
-  pub refused_late : lengths_refusal arena out wide narrow ≡ 0 → finish_refusal arena out wide narrow ≡ placing_refusal (placed_of arena (keys_of arena))
-  refused_late h = refused_by ∙ ap (λ (x : ℕ). or_else x (placing_refusal (placed_of arena (keys_of arena)))) h
+  pub refused_late : lengths_refusal arena out wide narrow ≡ 0 → finish_refusal arena out wide narrow ≡ placing_refusal arena (keys_of arena)
+  refused_late h = refused_by ∙ ap (λ (x : ℕ). or_else x (placing_refusal arena (keys_of arena))) h
 
 -- a refusal is answered by its number
 pub answered_refused : (r size : ℕ) → (r ≡ 0 → ⊥) → answered r size ≡ Refused r
@@ -128,46 +115,39 @@ hash_at seed arena (suc n) m l = go (ℕ_discrete m n) (λ lt. hash_at seed aren
         let lt : m < n = lt_of_le_of_ne (omega arith) e in
         get_or_append (hashes_of seed arena n) (hash_of seed (arena_key arena n) ∷ []) 0 m (omega (arith, hashes_long seed arena n)) ∙ rest lt
 
--- the placing that is taken for n keys is whole, and its pilots are the least
-pub placed_whole : (arena : List ℕ) (n i : ℕ) (pl : Placing) → 0 < n → placed_of arena n ≡ some (i, pl) → AllPlaced (attempt_hashes arena n i) pl × Pilots (attempt_hashes arena n i) pl.pilots
-unfolding placed_of attempt_hashes
-placed_whole arena n i pl any e = taken_whole (attempt_hashes arena n) (λ j. subst (λ (x : ℕ). 0 < x) (sym (hashes_long _ arena n)) any) i pl e
-
--- a whole placing's slots are filled
-whole_filled : (hs : List ℕ) (n : ℕ) (pl : Placing) → length hs ≡ n → AllPlaced hs pl → Filled n pl.slots
-whole_filled hs n pl e W = record {
-  filled = λ s l. let h = W.holds s (omega (arith, W.slots_long)) in omega (arith, h.2);
-  keys = λ s l. let h = W.holds s (omega (arith, W.slots_long)) in omega (arith, h.1, h.2);
-}
-
 module _ (arena wide pilots slots : List ℕ) (n i : ℕ) (C : AttemptTaken arena wide pilots slots n i) where
-  -- the hashes, and that every slot holds a key
-  pub chosen_written : (seed : ℕ) → seed ≡ seed_of i → 0 < n → SlotsKnown arena wide pilots slots n seed
+  -- 11 by the self-check of what was left
+  pub chosen_refusal : (t : Bool) → mismatch (take n wide) pilots slots ≡ t → placing_refusal arena n ≡ cond t 11 0
+  unfolding placing_refusal
+  chosen_refusal t e = rw (C.taken, ← C.hashes, e)
+
+  pub chosen_out : (out out' : List ℕ) (seed : ℕ) → seed ≡ seed_of i → out' ≡ splice out 0 (body_bytes arena n seed (placed_as pilots slots)) → out' ≡ splice out 0 (body_of arena n)
+  unfolding body_of
+  chosen_out out out' seed es q = q ∙ ap (λ (x : ℕ). splice out 0 (body_bytes arena n x (placed_as pilots slots))) es ∙ sym (ap (λ (o : Option (ℕ × Placing)). splice out 0 (body_from arena n o)) C.taken)
+
+  -- the hashes, and that every slot holds a key where the self-check passes
+  pub chosen_written : (seed : ℕ) → seed ≡ seed_of i → mismatch (take n wide) pilots slots ≡ false → SlotsKnown arena wide pilots slots n seed
   unfolding attempt_hashes
-  chosen_written seed es any = record {
+  chosen_written seed es e = record {
     pilots_long = C.pilots_long;
     slots_long = C.slots_long;
     hashes = λ m lm. sym (get_or_take n wide m 0 lm) ∙ ap (λ (z : List ℕ). get_or z m 0) C.hashes ∙ hash_at (seed_of i) arena n m lm ∙ ap (λ (x : ℕ). hash_of x (arena_key arena m)) (sym es);
-    slots_filled = whole_filled (hashes_of (seed_of i) arena n) n (placed_as pilots slots) (hashes_long (seed_of i) arena n) (placed_whole arena n i (placed_as pilots slots) any C.taken).0;
+    slots_filled = subst (λ (x : ℕ). Filled x slots) C.slots_long (all_filled (take n wide) pilots slots e);
   }
 
-  -- the body that was written of it
-  pub chosen_body : (out out' : List ℕ) (seed start : ℕ) → seed ≡ seed_of i → start ≡ arena_start n → out' ≡ splice out 0 (body_bytes arena n seed (placed_as pilots slots))
-      → BodyPost arena out n (Body (start + length arena)) out'
-  unfolding body_of
-  chosen_body out out' seed start es ea q = record { answer = rw (C.taken, ea); written = rw C.taken (q ∙ ap (λ (x : ℕ). splice out 0 (body_bytes arena n x (placed_as pilots slots))) es) }
+-- ---- what was built
 
--- no attempt is taken
 pub built_ten : (arena out : List ℕ) (n : ℕ) → placed_of arena n ≡ none → BodyPost arena out n (Refused 10) out
+unfolding placing_refusal
 built_ten arena out n e = record { answer = rw e; written = rw e }
 
--- ---- what finish leaves
+pub built_eleven : (arena out : List ℕ) (n : ℕ) → placing_refusal arena n ≡ 11 → BodyPost arena out n (Refused 11) out
+built_eleven arena out n e = record { answer = rw e; written = rw e }
 
--- past the length checks: the output by the answer, and the workspace zero
-placed_leaves : (arena out out' : List ℕ) (t : Bool) (r : Finished) → r ≡ answered (cond t 10 0) (body_length arena (keys_of arena)) → out' ≡ cond t out (splice out 0 (body_of arena (keys_of arena)))
-    → (out' ≡ out_after r arena out) × ((space : List ℕ) → replicate (length space) 0 ≡ space_after r space)
-placed_leaves arena out out' true r e w = (rw e w, λ space. rw e)
-placed_leaves arena out out' false r e w = (rw e w, λ space. rw e)
+pub built_body : (arena out out' : List ℕ) (n start : ℕ) → placing_refusal arena n ≡ 0 → start ≡ arena_start n → out' ≡ splice out 0 (body_of arena n) → BodyPost arena out n (Body (start + length arena)) out'
+built_body arena out out' n start e es q = record { answer = rw (e, es); written = rw e q }
+
+-- ---- what finish leaves
 
 module _ (arena out wide narrow : List ℕ) (k : Walked) (ek : k ≡ walk_from unslotted arena Untested 0 0 (length arena)) where
   by_walk : walked_refusal (length arena) k.end k.keys (length out) (length wide) (length narrow) ≡ lengths_refusal arena (length out) (length wide) (length narrow)
@@ -180,16 +160,15 @@ module _ (arena out wide narrow : List ℕ) (k : Walked) (ek : k ≡ walk_from u
 
   -- refused before the keys are placed: nothing is written
   pub post_early : (r : ℕ) → r ≡ walked_refusal (length arena) k.end k.keys (length out) (length wide) (length narrow) → (r ≡ 0 → ⊥) → FinishPost arena out wide narrow (Refused r) out wide narrow
-  unfolding finish_of
+  unfolding finish_of out_after
   post_early r e n =
       let e' : lengths_refusal arena (length out) (length wide) (length narrow) ≡ r = sym (e ∙ by_walk) in
       let q : finish_refusal arena (length out) (length wide) (length narrow) ≡ r = refused_early arena (length out) (length wide) (length narrow) (λ z. n (sym e' ∙ z)) ∙ e' in
-      let early = ne_eqb r 10 (λ z. omega (arith, lengths_below (length arena) k.end k.keys (length out) (length wide) (length narrow))) in
       record {
         answer = sym (ap (λ (x : ℕ). answered x (body_length arena (keys_of arena))) q ∙ answered_refused r _ n);
-        out_after_is = refl;
-        wide_after = rw early;
-        narrow_after = rw early;
+        out_after_is = sym (ap (λ (x : ℕ). cond (eqb x 0) (splice out 0 (body_of arena (keys_of arena))) out) q ∙ ap (λ (t : Bool). cond t (splice out 0 (body_of arena (keys_of arena))) out) (ne_eqb r 0 n));
+        wide_after = sym (ap (λ (x : ℕ). space_after x wide) e' ∙ ap (λ (t : Bool). cond t (replicate (length wide) 0) wide) (ne_eqb r 0 n));
+        narrow_after = sym (ap (λ (x : ℕ). space_after x narrow) e' ∙ ap (λ (t : Bool). cond t (replicate (length narrow) 0) narrow) (ne_eqb r 0 n));
       }
 
   module _ (passed : walked_refusal (length arena) k.end k.keys (length out) (length wide) (length narrow) ≡ 0) where
@@ -218,13 +197,13 @@ module _ (arena out wide narrow : List ℕ) (k : Walked) (ek : k ≡ walk_from u
 
     -- the keys placed or not: the output as that leaves it, the workspace zero
     pub post_late : (r : Finished) (out' wide' narrow' : List ℕ) → BodyPost arena out k.keys r out' → wide' ≡ replicate (length wide) 0 → narrow' ≡ replicate (length narrow) 0 → FinishPost arena out wide narrow r out' wide' narrow'
-    unfolding finish_of
+    unfolding finish_of out_after
     post_late r out' wide' narrow' B ew eu =
-        let P = subst (λ (x : ℕ). BodyPost arena out x r out') keys_walked B in
-        let left = placed_leaves arena out out' (untaken (placed_of arena (keys_of arena))) r P.answer P.written in
+        let z : lengths_refusal arena (length out) (length wide) (length narrow) ≡ 0 = sym by_walk ∙ passed in
+        let q : finish_refusal arena (length out) (length wide) (length narrow) ≡ placing_refusal arena k.keys = refused_late arena (length out) (length wide) (length narrow) z ∙ ap (placing_refusal arena) (sym keys_walked) in
         record {
-          answer = P.answer ∙ sym (ap (λ (x : ℕ). answered x (body_length arena (keys_of arena))) (refused_late arena (length out) (length wide) (length narrow) (sym by_walk ∙ passed)));
-          out_after_is = left.0;
-          wide_after = ew ∙ left.1 wide;
-          narrow_after = eu ∙ left.1 narrow;
+          answer = B.answer ∙ sym (ap (λ (x : ℕ). answered x (body_length arena (keys_of arena))) q ∙ ap (λ (x : ℕ). answered (placing_refusal arena k.keys) (body_length arena x)) (sym keys_walked));
+          out_after_is = B.written ∙ sym (ap (λ (x : ℕ). cond (eqb x 0) (splice out 0 (body_of arena (keys_of arena))) out) q ∙ ap (λ (x : ℕ). cond (eqb (placing_refusal arena k.keys) 0) (splice out 0 (body_of arena x)) out) (sym keys_walked));
+          wide_after = ew ∙ sym (ap (λ (x : ℕ). space_after x wide) z);
+          narrow_after = eu ∙ sym (ap (λ (x : ℕ). space_after x narrow) z);
         }

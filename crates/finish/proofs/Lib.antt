@@ -1,7 +1,9 @@
 pub mod RowLaws
 pub mod LengthLaws
+pub mod CheckLaws
 pub mod BodyLaws
 pub mod FinishLaws
+pub mod SelfCheck
 pub mod Answers
 pub mod ShiftLaws
 pub mod FieldLaws

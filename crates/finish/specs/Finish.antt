@@ -1,14 +1,16 @@
 -- Finish: its refusals in document 01's order, its answer, and what it leaves in the output and the workspace.
-use Rattle.std.specs.Prelude.{ℕ, zero, suc, ◌+◌, ◌*◌, ◌≡◌, Bool, true, false, not, cond, List, [], ◌∷◌, ◌++◌, eqb, ltb, length, replicate}
+use Rattle.std.specs.Prelude.{ℕ, zero, suc, ◌+◌, ◌-◌, ◌*◌, ◌≡◌, Bool, true, false, not, cond, ◌||◌, List, [], ◌∷◌, ◌++◌, eqb, ltb, length, get_or, replicate}
 use Rattle.std.proofs.Math.Option.{Option, none, some}
 use Rattle.laws.specs.Refusals.{Cause, cause, first_of}
+use Rattle.laws.specs.Steps.{any_below}
 use Rattle.numbers.specs.Limits.{most_keys}
 use Rattle.words.specs.Field.{splice}
 use Rattle.records.specs.declared.DataLength.TheVariants.{Untested}
 use Rattle.records.specs.declared.Walked.{Walked}
 use Rattle.records.specs.Rules.{unslotted}
 use Rattle.records.specs.Walk.{walk_from}
-use Rattle.construct.specs.Construct.{Placing}
+use Rattle.construct.specs.Construct.{Placing, index_of}
+use Rattle.construct.specs.Keys.{attempt_hashes}
 use Rattle.finish.specs.declared.Finished.{Finished}
 use Rattle.finish.specs.declared.Finished.TheVariants.{Body, Refused}
 use Rattle.finish.specs.Body.{arena_start, placed_of, body_of}
@@ -35,19 +37,43 @@ walked_causes size end n out wide narrow =
 unfoldable pub walked_refusal : (size end n out wide narrow : ℕ) → ℕ
 walked_refusal size end n out wide narrow = first_of (walked_causes size end n out wide narrow)
 
--- of an arena, with output and workspace of these lengths: 8, 5, 9, 6 before the keys are placed
-abbrev pub lengths_refusal : List ℕ → (out wide narrow : ℕ) → ℕ
-lengths_refusal arena out wide narrow = walked_refusal (length arena) (walked arena).end (keys_of arena) out wide narrow
+-- slot s, of n, that holds `held`, is unfilled, holds no key, or one whose index is another slot
+unfoldable pub unmatched : (hs pilots : List ℕ) → (n s held : ℕ) → Bool
+unmatched hs pilots n s held = eqb held 0 || (ltb n held || not (eqb (index_of (get_or hs (held - 1) 0) pilots n) s))
+
+unfoldable pub unmatched_at : (hs pilots slots : List ℕ) → ℕ → Bool
+unmatched_at hs pilots slots s = unmatched hs pilots (length slots) s (get_or slots s 0)
+
+-- slots unfilled or mismatched
+unfoldable pub mismatch : (hs pilots slots : List ℕ) → Bool
+mismatch hs pilots slots = any_below (unmatched_at hs pilots slots) (length slots)
 
 -- no attempt is taken
 abbrev pub untaken : Option (ℕ × Placing) → Bool
 untaken none = true
 untaken (some x) = false
 
--- and 10, all eight attempts failed, after that: every cause, in the order 8, 5, 9, 6, 10
+-- the self-check of the attempt that is taken
+abbrev pub mismatched : (ℕ → List ℕ) → Option (ℕ × Placing) → Bool
+mismatched hashes none = false
+mismatched hashes (some (i, pl)) = mismatch (hashes i) pl.pilots pl.slots
+
+-- 10 all eight attempts failed, 11 self-check
+abbrev pub placing_causes : List ℕ → ℕ → List Cause
+placing_causes arena n =
+    cause (untaken (placed_of arena n)) 10 ∷ cause (mismatched (attempt_hashes arena n) (placed_of arena n)) 11 ∷ []
+
+unfoldable pub placing_refusal : List ℕ → ℕ → ℕ
+placing_refusal arena n = first_of (placing_causes arena n)
+
+-- what stops finish on an arena, with output and workspace of these lengths: 8, 5, 9, 6 before the keys are placed
+abbrev pub lengths_refusal : List ℕ → (out wide narrow : ℕ) → ℕ
+lengths_refusal arena out wide narrow = walked_refusal (length arena) (walked arena).end (keys_of arena) out wide narrow
+
+-- and 10, 11 after that: every cause, in the order 8, 5, 9, 6, 10, 11
 abbrev pub finish_causes : List ℕ → (out wide narrow : ℕ) → List Cause
 finish_causes arena out wide narrow =
-    walked_causes (length arena) (walked arena).end (keys_of arena) out wide narrow ++ (cause (untaken (placed_of arena (keys_of arena))) 10 ∷ [])
+    walked_causes (length arena) (walked arena).end (keys_of arena) out wide narrow ++ placing_causes arena (keys_of arena)
 
 unfoldable pub finish_refusal : List ℕ → (out wide narrow : ℕ) → ℕ
 finish_refusal arena out wide narrow = first_of (finish_causes arena out wide narrow)
@@ -64,22 +90,21 @@ body_length arena n = arena_start n + length arena
 unfoldable pub finish_of : List ℕ → (out wide narrow : ℕ) → Finished
 finish_of arena out wide narrow = answered (finish_refusal arena out wide narrow) (body_length arena (keys_of arena))
 
--- the output by the answer: the body in front, and the rest as it was; all as it was at a refusal
-abbrev pub out_after : Finished → (arena out : List ℕ) → List ℕ
-out_after (Body size) arena out = splice out 0 (body_of arena (keys_of arena))
-out_after (Refused n) arena out = out
+-- the output: the body in front, and the rest as it was; all as it was at a refusal
+unfoldable pub out_after : List ℕ → (out : List ℕ) → (wide narrow : ℕ) → List ℕ
+out_after arena out wide narrow =
+    cond (eqb (finish_refusal arena (length out) wide narrow) 0) (splice out 0 (body_of arena (keys_of arena))) out
 
--- lent workspace by the answer: all zero, also at 10; as it was at the refusals before it
-abbrev pub space_after : Finished → List ℕ → List ℕ
-space_after (Body size) space = replicate (length space) 0
-space_after (Refused n) space = cond (eqb n 10) (replicate (length space) 0) space
+-- lent workspace: all zero once past the length checks, and before that as it was
+abbrev pub space_after : (refusal : ℕ) → List ℕ → List ℕ
+space_after refusal space = cond (eqb refusal 0) (replicate (length space) 0) space
 
--- what finish commits to: its answer, and by it every byte of the output and every word of both workspaces
+-- what finish commits to: its answer, every byte of the output, every word of both workspaces
 pub record FinishPost (arena out wide narrow : List ℕ) (r : Finished) (out' wide' narrow' : List ℕ) : Type 0 where
   pub answer : r ≡ finish_of arena (length out) (length wide) (length narrow)
-  pub out_after_is : out' ≡ out_after r arena out
-  pub wide_after : wide' ≡ space_after r wide
-  pub narrow_after : narrow' ≡ space_after r narrow
+  pub out_after_is : out' ≡ out_after arena out (length wide) (length narrow)
+  pub wide_after : wide' ≡ space_after (lengths_refusal arena (length out) (length wide) (length narrow)) wide
+  pub narrow_after : narrow' ≡ space_after (lengths_refusal arena (length out) (length wide) (length narrow)) narrow
 
 -- the paper's number of an answer, 0 for a body, and the body's length
 abbrev pub finished_number : Finished → ℕ

@@ -1,9 +1,10 @@
 // Finish: the body of an index from the bytes of its arena.
 mod body;
+mod check;
 
 ghost use Rattle.std.specs.Prelude.{◌≡◌, ◌+◌, ◌*◌, ◌≤◌, length};
 ghost use Rattle.finish.specs.Finish.{walked_refusal, FinishPost};
-ghost use Rattle.finish.specs.Inner.Needs.{Room, BodyPost};
+ghost use Rattle.finish.specs.Inner.Needs.{Room, AttemptTaken, BodyPost};
 
 use construct::{Constructed, places};
 use layout::arena_start;
@@ -53,6 +54,26 @@ fn length_refusal(size: usize, end: usize, n: usize, out: usize, wide: usize, na
     0
 }
 
+// Checks the attempt that was taken, by its pilots and its slots, and writes the body.
+fn checked(
+    arena: &[u8],
+    out: &mut [u8],
+    wide: &mut [u64],
+    pilots: &[u32],
+    slots: &[u32],
+    n: usize,
+    i: u64,
+) -> Finished
+    requires { Room arena.now out.old wide.old n × AttemptTaken arena.now wide.old pilots.now slots.now n i }
+    ensures { BodyPost arena.now out.old n result out.new }
+{
+    if check::mismatch(&wide[..n], pilots, slots) {
+        return Finished::Refused(Refusal::SELF_CHECK);
+    }
+    body::write_body(arena, out, wide, pilots, slots, n, mixing::seed(i));
+    Finished::Body(arena_start(n) + arena.len())
+}
+
 // Places the n keys, and writes the body where that succeeds.
 fn build(arena: &[u8], out: &mut [u8], wide: &mut [u64], narrow: &mut [u32], n: usize) -> Finished
     requires { Room arena.now out.old wide.old n × (8 * n + 8 ≤ length narrow.old) }
@@ -62,16 +83,15 @@ fn build(arena: &[u8], out: &mut [u8], wide: &mut [u64], narrow: &mut [u32], n: 
     match c {
         Constructed::Placed(i) => {
             let b = buckets(n);
-            body::write_body(
+            checked(
                 arena,
                 out,
                 wide,
                 places::pilots(narrow, b),
                 places::slots(narrow, n, b),
                 n,
-                mixing::seed(i),
-            );
-            Finished::Body(arena_start(n) + arena.len())
+                i,
+            )
         }
         Constructed::Exhausted => Finished::Refused(Refusal::ATTEMPTS),
     }

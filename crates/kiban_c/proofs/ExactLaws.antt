@@ -11,8 +11,7 @@ use lib.Dec.{eqb, ltb, leb, lit<}
 use lib.ListN.{length, replicate}
 use Rattle.laws.specs.Each.{Each}
 use Rattle.laws.specs.Each.Each.{each_none, each_more}
-use Rattle.laws.specs.Refusals.{Cause, first_of, or_else, First}
-use Rattle.laws.proofs.RefusalLaws.{first_each}
+use Rattle.laws.specs.Refusals.{Cause, first_of, or_else, First, here, later}
 use Rattle.words.specs.Field.{splice}
 use Rattle.records.specs.Rules.{bad_kind}
 use Rattle.builder.specs.declared.PointBuilder.{PointBuilder}
@@ -26,9 +25,9 @@ use Rattle.builder.specs.SetOffset.{set_of, buffer_after_set, set_number}
 use Rattle.builder.proofs.Answers.{add_refuses, add_refuses_only, set_refuses, set_refuses_only}
 use Rattle.finish.specs.declared.Finished.{Finished}
 use Rattle.finish.specs.declared.Finished.TheVariants as finished
-use Rattle.finish.specs.Finish.{space_after, finished_number}
+use Rattle.finish.specs.Finish.{lengths_refusal, finish_refusal, finish_of, out_after, space_after, finished_number, finished_values}
 use Rattle.finish.proofs.RowLaws.{splice_none}
-use Rattle.finish.proofs.Answers.{refused_leaves}
+use Rattle.finish.proofs.Answers.{finish_number}
 use Rattle.records.specs.declared.Within.{Within}
 use Rattle.records.specs.declared.Within.TheVariants as within
 use Rattle.point.specs.declared.Answer.{Answer}
@@ -39,7 +38,7 @@ use Rattle.filter.specs.declared.SstFilter.TheVariants as read
 use Rattle.filter.specs.declared.Built.{Built}
 use Rattle.filter.specs.declared.Built.TheVariants as built
 use Rattle.filter.specs.Reading.{read_of, read_refusal, read_values}
-use Rattle.filter.specs.Building.{built_refusal, built_values, unless_stopped}
+use Rattle.filter.specs.Building.{built_refusal, built_values, hashes_by, space_by, out_by}
 use Rattle.lines.specs.declared.Listed.TheVariants.{Text, Refused}
 use Rattle.lines.specs.Listing.{listed_of, buffer_of, listed_number, listed_values}
 use Rattle.kiban_c.specs.Lent.{answer_short, number_by, left_by, SixFirst}
@@ -88,6 +87,10 @@ sort_refuses_nothing P = P.number
 -- ---- add
 
 -- add itself never answers 28
+first_below : {m n : ℕ} {cs : List Cause} → Each (λ c. c.number < m) cs → First n cs → n < m
+first_below (each_more p ps) (here h e) = omega arith
+first_below (each_more p ps) (later h f) = first_below ps f
+
 module _ (s : PointBuilder) (buffer : List ℕ) (call : Call) where
   key_below : (new_key : Bool) → Each (λ c. c.number < 28) (cond new_key (new_causes s (last_of s buffer) (room_of s buffer) call.key) (continued_causes s (last_of s buffer) (room_of s buffer) call.key call.sequence))
   unfolding new_causes continued_causes
@@ -96,7 +99,7 @@ module _ (s : PointBuilder) (buffer : List ℕ) (call : Call) where
 
   own_below : {n : ℕ} → First n (add_causes s buffer call) → n < 28
   unfolding add_causes taking_causes
-  own_below f = first_each (λ x. x < 28) (each_more (lit< tt) (each_more (lit< tt) (each_more (lit< tt) (each_more (lit< tt) (key_below call.new_key))))) f
+  own_below f = first_below (each_more (lit< tt) (each_more (lit< tt) (each_more (lit< tt) (each_more (lit< tt) (key_below call.new_key))))) f
 
   own_kind : (a : Added) → add_of s buffer call ≡ a → added_number a ≡ 28 → ⊥
   own_kind (added.Taken next place) e z = omega arith
@@ -174,15 +177,21 @@ module _ {buffer state : List ℕ} {place offset r : ℕ} {buffer' : List ℕ} (
 
 -- ---- finish
 
+no_length : (f : Finished) → 0 < finished_number f → finished_values f ≡ []
+no_length (finished.Body size) o = absurd (omega arith)
+no_length (finished.Refused n) o = refl
+
+finish_kept : (arena out : List ℕ) (wide narrow : ℕ) → 0 < finished_number (finish_of arena (length out) wide narrow) → out_after arena out wide narrow ≡ out
+unfolding out_after
+finish_kept arena out wide narrow o =
+    let n = finish_number arena (length out) wide narrow in
+    let some : finish_refusal arena (length out) wide narrow ≡ 0 → ⊥ = λ z. omega arith in
+    rw (ne_eqb (finish_refusal arena (length out) wide narrow) 0 some)
+
 -- workspace is as it was, or zero
-zeroed : (checks : List Cause) (f : Finished) (space after : List ℕ) → after ≡ left_by checks space (space_after f space) → (after ≡ space) ⊎ (after ≡ replicate (length space) 0)
+zeroed : (checks : List Cause) (refusal : ℕ) (space after : List ℕ) → after ≡ left_by checks space (space_after refusal space) → (after ≡ space) ⊎ (after ≡ replicate (length space) 0)
 unfolding left_by
-zeroed checks (finished.Body size) space after p = go (eqb (first_of checks) 0) p
-  where
-    go : (b : Bool) → after ≡ cond b (replicate (length space) 0) space → (after ≡ space) ⊎ (after ≡ replicate (length space) 0)
-    go true e = inr e
-    go false e = inl e
-zeroed checks (finished.Refused n) space after p = go (eqb (first_of checks) 0) (eqb n 10) p
+zeroed checks refusal space after p = go (eqb (first_of checks) 0) (eqb refusal 0) p
   where
     go : (b c : Bool) → after ≡ cond b (cond c (replicate (length space) 0) space) space → (after ≡ space) ⊎ (after ≡ replicate (length space) 0)
     go true true e = inr e
@@ -196,13 +205,12 @@ module _ {arena out wide narrow answer : List ℕ} {r : ℕ} {out' wide' narrow'
 
   -- THEOREM: a refused call leaves output and answer, and workspace as it was or zero
   pub finish_refused_leaves : 0 < r → (out' ≡ out) × (answer' ≡ answer) × ((wide' ≡ wide) ⊎ (wide' ≡ replicate (length wide) 0)) × ((narrow' ≡ narrow) ⊎ (narrow' ≡ replicate (length narrow) 0))
-  finish_refused_leaves o =
-      let k = refused_leaves (finish_called arena out wide narrow) in (
-        P.out_after_is ∙ kept _ P.number o out _ (λ q. (k q).1 arena out),
-        P.answer_after ∙ kept _ P.number o answer _ (λ q. unput answer (k q).0),
-        zeroed _ (finish_called arena out wide narrow) wide wide' P.wide_after,
-        zeroed _ (finish_called arena out wide narrow) narrow narrow' P.narrow_after,
-      )
+  finish_refused_leaves o = (
+    P.out_after_is ∙ kept _ P.number o out _ (finish_kept arena out (length wide) (length narrow)),
+    P.answer_after ∙ kept _ P.number o answer _ (λ q. unput answer (no_length (finish_called arena out wide narrow) q)),
+    zeroed _ (lengths_refusal arena (length out) (length wide) (length narrow)) wide wide' P.wide_after,
+    zeroed _ (lengths_refusal arena (length out) (length wide) (length narrow)) narrow narrow' P.narrow_after,
+  )
 
 -- ---- get
 
@@ -236,11 +244,10 @@ module _ {body bytes key answer : List ℕ} {limited limit r : ℕ} {answer' : L
 
 -- ---- filter build
 
--- a refusal gives no value, and leaves what is lent
-no_bytes : (b : Built) → 0 < built_refusal b → (built_values b ≡ []) × ((before after : List ℕ) → unless_stopped b before after ≡ before)
+no_bytes : (b : Built) → 0 < built_refusal b → (built_values b ≡ []) × ((hashes : List ℕ) → hashes_by b hashes ≡ hashes) × ((space : List ℕ) → space_by b space ≡ space) × ((hashes out : List ℕ) → out_by b hashes out ≡ out)
 no_bytes built.Positive o = absurd (omega arith)
 no_bytes (built.Fuse s) o = absurd (omega arith)
-no_bytes (built.Refused n) o = (refl, λ before after. refl)
+no_bytes (built.Refused n) o = (refl, λ hashes. refl, λ space. refl, λ hashes out. refl)
 
 module _ {hashes wide narrow out answer : List ℕ} {r : ℕ} {hashes' wide' narrow' out' answer' : List ℕ}
     (P : FilterBuildCall hashes wide narrow out answer r hashes' wide' narrow' out' answer') where
@@ -252,10 +259,10 @@ module _ {hashes wide narrow out answer : List ℕ} {r : ℕ} {hashes' wide' nar
   pub filter_build_refused_leaves : 0 < r → (hashes' ≡ hashes) × (wide' ≡ wide) × (narrow' ≡ narrow) × (out' ≡ out) × (answer' ≡ answer)
   filter_build_refused_leaves o =
       let k = no_bytes (build_called hashes wide narrow out) in (
-        P.hashes_after ∙ kept _ P.number o hashes _ (λ q. (k q).1 hashes _),
-        P.wide_after ∙ kept _ P.number o wide _ (λ q. (k q).1 wide _),
-        P.narrow_after ∙ kept _ P.number o narrow _ (λ q. (k q).1 narrow _),
-        P.out_after_is ∙ kept _ P.number o out _ (λ q. (k q).1 out _),
+        P.hashes_after ∙ kept _ P.number o hashes _ (λ q. (k q).1 hashes),
+        P.wide_after ∙ kept _ P.number o wide _ (λ q. (k q).2 wide),
+        P.narrow_after ∙ kept _ P.number o narrow _ (λ q. (k q).2 narrow),
+        P.out_after_is ∙ kept _ P.number o out _ (λ q. (k q).3 _ out),
         P.answer_after ∙ kept _ P.number o answer _ (λ q. unput answer (k q).0),
       )
 

@@ -46,13 +46,12 @@ module _ {hashes wide narrow out answer : List ℕ} where
   build_made h p g av =
       let c = enough answer 1 h in
       let e = sym g ∙ p.answer in
-      let q = rw p.answer at p in
       record {
         number = ap built_refusal e ∙ none_number c _;
-        hashes_after = q.hashes_after ∙ none_left c _ _;
-        wide_after = q.wide_after ∙ none_left c _ _;
-        narrow_after = q.narrow_after ∙ none_left c _ _;
-        out_after_is = q.out_after_is ∙ none_left c _ _;
+        hashes_after = p.hashes_after ∙ none_left c _ _;
+        wide_after = p.wide_after ∙ none_left c _ _;
+        narrow_after = p.narrow_after ∙ none_left c _ _;
+        out_after_is = p.out_after_is ∙ none_left c _ _;
         answer_after = av ∙ ap (λ (z : Built). splice answer 0 (built_values z)) e ∙ none_left c _ _;
       }
 

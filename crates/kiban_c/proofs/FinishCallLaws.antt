@@ -28,11 +28,10 @@ module _ {arena out wide narrow answer : List ℕ} where
   finish_made h p g av =
       let c = enough answer 1 h in
       let e = sym g ∙ p.answer in
-      let q = rw p.answer at p in
       record {
         number = ap finished_number e ∙ none_number c _;
-        out_after_is = q.out_after_is ∙ none_left c _ _;
-        wide_after = q.wide_after ∙ none_left c _ _;
-        narrow_after = q.narrow_after ∙ none_left c _ _;
+        out_after_is = p.out_after_is ∙ none_left c _ _;
+        wide_after = p.wide_after ∙ none_left c _ _;
+        narrow_after = p.narrow_after ∙ none_left c _ _;
         answer_after = av ∙ ap (λ (z : Finished). splice answer 0 (finished_values z)) e ∙ none_left c _ _;
       }

@@ -1,5 +1,5 @@
 -- The filter at the boundary: build's answer is one word (the bytes written), read's six, and ask_all's a byte for each hash.
-use Rattle.std.specs.Prelude.{ℕ, ◌≡◌, List, [], ◌∷◌, map, length, replicate}
+use Rattle.std.specs.Prelude.{ℕ, ◌≡◌, List, [], ◌∷◌, map, length}
 use Rattle.laws.specs.Refusals.{Cause}
 use Rattle.words.specs.Field.{splice}
 use Rattle.sort.specs.Sort.{sorted}
@@ -8,7 +8,7 @@ use Rattle.filter.specs.declared.SstFilter.TheVariants as read
 use Rattle.filter.specs.declared.Built.{Built}
 use Rattle.filter.specs.Reading.{read_of, read_refusal, read_values}
 use Rattle.filter.specs.Asking.{ask_of, ask_number}
-use Rattle.filter.specs.Building.{build_of, built_refusal, written_by, built_values, unless_stopped}
+use Rattle.filter.specs.Building.{build_of, built_refusal, built_values, hashes_by, space_by, out_by}
 use Rattle.kiban_c.specs.Lent.{answer_short, number_by, left_by}
 
 -- ---- building
@@ -24,10 +24,10 @@ filter_build_checks answer = answer_short answer 1 ∷ []
 -- what kiban_filter_build commits to: the number, and every lent byte and word
 pub record FilterBuildCall (hashes wide narrow out answer : List ℕ) (r : ℕ) (hashes' wide' narrow' out' answer' : List ℕ) : Type 0 where
   pub number : r ≡ number_by (filter_build_checks answer) (built_refusal (build_called hashes wide narrow out))
-  pub hashes_after : hashes' ≡ left_by (filter_build_checks answer) hashes (unless_stopped (build_called hashes wide narrow out) hashes (sorted hashes))
-  pub wide_after : wide' ≡ left_by (filter_build_checks answer) wide (unless_stopped (build_called hashes wide narrow out) wide (replicate (length wide) 0))
-  pub narrow_after : narrow' ≡ left_by (filter_build_checks answer) narrow (unless_stopped (build_called hashes wide narrow out) narrow (replicate (length narrow) 0))
-  pub out_after_is : out' ≡ left_by (filter_build_checks answer) out (unless_stopped (build_called hashes wide narrow out) out (splice out 0 (written_by (build_called hashes wide narrow out) (sorted hashes))))
+  pub hashes_after : hashes' ≡ left_by (filter_build_checks answer) hashes (hashes_by (build_called hashes wide narrow out) hashes)
+  pub wide_after : wide' ≡ left_by (filter_build_checks answer) wide (space_by (build_called hashes wide narrow out) wide)
+  pub narrow_after : narrow' ≡ left_by (filter_build_checks answer) narrow (space_by (build_called hashes wide narrow out) narrow)
+  pub out_after_is : out' ≡ left_by (filter_build_checks answer) out (out_by (build_called hashes wide narrow out) (sorted hashes) out)
   pub answer_after : answer' ≡ left_by (filter_build_checks answer) answer (splice answer 0 (built_values (build_called hashes wide narrow out)))
 
 -- ---- reading

@@ -4,8 +4,7 @@ use native.Mathlib.Nat.{suc-ne-zero}
 use native.Mathlib.Omega.{arith}
 use mathlib.Core.Bool.{Bool, true, false, cond}
 use mathlib.Core.List.{List, [], ◌∷◌, ◌++◌}
-use mathlib.Core.Path.{◌≡◌, refl, sym, ap, ◌∙◌, subst}
-use Rattle.laws.specs.Each.{Each, each_more}
+use mathlib.Core.Path.{◌≡◌, refl, sym, ap, ◌∙◌}
 use Rattle.laws.specs.Refusals.{Cause, first_of, or_else, First, here, later, None, none_here, none_more, Numbered, numbered_none, numbered_more, FirstOfTwo, by_first_is, by_second}
 
 -- a number is given where its cause is the first that holds
@@ -40,11 +39,6 @@ none_only (numbered_more {c} {cs} p r) e = go c.holds refl (none_only r)
 pub first_positive : {n : ℕ} {cs : List Cause} → Numbered cs → First n cs → 0 < n
 first_positive (numbered_more p ns) (here h e) = omega arith
 first_positive (numbered_more p ns) (later h f) = first_positive ns f
-
--- what every number of a row has, the number given has
-pub first_each : (P : ℕ → Type 0) {n : ℕ} {cs : List Cause} → Each (λ c. P c.number) cs → First n cs → P n
-first_each P (each_more p ps) (here h e) = subst P e p
-first_each P (each_more p ps) (later h f) = first_each P ps f
 
 -- ---- the first refusal of two
 

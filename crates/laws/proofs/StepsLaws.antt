@@ -151,6 +151,21 @@ module _ (test : ℕ → Bool) where
       go true e rest z = ((rest e).0, omega (arith, (rest e).1), (rest e).2)
       go false e rest z = (n, omega arith, z)
 
+  -- where none passes, each fails, and back
+  pub any_false : (n i : ℕ) → any_below test n ≡ false → i < n → test i ≡ false
+  any_false n i h l = go (test i) refl
+    where
+      go : (b : Bool) → test i ≡ b → b ≡ false
+      go true e = absurd (false≢true (sym h ∙ any_some i n l e))
+      go false e = refl
+
+  pub none_passes : (n : ℕ) → ((i : ℕ) → i < n → test i ≡ false) → any_below test n ≡ false
+  none_passes n h = go (any_below test n) refl
+    where
+      go : (b : Bool) → any_below test n ≡ b → b ≡ false
+      go true e = let w = any_why n e in absurd (false≢true (sym (h w.0 w.1) ∙ w.2))
+      go false e = refl
+
   pub any_miss : (i : ℕ) → test i ≡ false → any_below test i ≡ false → any_below test (i + 1) ≡ false
   any_miss i h w = ap (any_below test) (add-one i) ∙ any_more i w ∙ h
 

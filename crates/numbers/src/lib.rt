@@ -1,5 +1,4 @@
 // The numbers that calls refuse with, each named once for its cause (document 01, "Calls and the numbers they refuse with").
-// 11 is retired.
 
 #[derive(Drop)]
 pub struct Refusal {}
@@ -34,6 +33,9 @@ impl Refusal {
 
     // All eight attempts failed.
     pub const ATTEMPTS: u8 = 10;
+
+    // Self-check: slots unfilled or mismatched.
+    pub const SELF_CHECK: u8 = 11;
 
     // More hashes than a filter is built of.
     pub const HASHES: u8 = 12;

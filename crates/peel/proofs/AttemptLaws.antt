@@ -74,11 +74,11 @@ module _ (segment count seed : ℕ) (u : Usable segment count) (hashes : List �
       all_present (positions_of segment count) (cells_in segment count) (mixed seed hashes) (mixed_placed segment count u seed hashes)
       (all_left (positions_of segment count) (cells_in segment count) (mixed seed hashes) ok) _ (mixed_count seed hash hashes k)
 
--- so if every hash was peeled, every hash is in the cells laid
-pub hashes_laid : (s : Sizes) → Usable s.segment s.count → (hashes : List ℕ) → succeeds s.segment s.count s.seed hashes ≡ true
+-- so the closing membership check never fails
+pub check_never_fails : (s : Sizes) → Usable s.segment s.count → (hashes : List ℕ) → succeeds s.segment s.count s.seed hashes ≡ true
     → (hash : ℕ) → 1 ≤ occurs hash hashes → contains_of (cells_laid s.segment s.count s.seed hashes) s hash ≡ true
 unfolding contains_of
-hashes_laid s u hashes ok hash k = eq-eqb _ _ (hashes_present s.segment s.count s.seed u hashes ok hash k)
+check_never_fails s u hashes ok hash k = eq-eqb _ _ (hashes_present s.segment s.count s.seed u hashes ok hash k)
 
 -- ---- the cells are as many as the sizes say
 

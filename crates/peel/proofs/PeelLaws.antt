@@ -331,7 +331,7 @@ module _ (pos : ℕ → List ℕ) (c : ℕ) where
       filling_fill es (e.hash ∷ hs) (put pos e fp) ok g.2
       (filling_put e hs fp (ok e.hash (omega (arith, count_origin e.hash es (e.hash ∷ hs), occurs_here e.hash hs))) g.0 g.1 F)
 
--- if every hash was peeled, every hash is present
+-- the closing check never fails: if every hash was peeled, every hash is present
 pub all_present : (pos : ℕ → List ℕ) (c : ℕ) (hs : List ℕ) → ((h : ℕ) → 1 ≤ occurs h hs → Placed c pos h)
     → (attempt pos c hs).left ≡ [] → (h : ℕ) → 1 ≤ occurs h hs → Present pos (cells_after pos c hs) h
 unfolding cells_after

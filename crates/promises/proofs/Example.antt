@@ -37,9 +37,10 @@ use Rattle.point.proofs.Theorems.{get_is_lookup}
 use Rattle.finish.specs.declared.Finished.{Finished}
 use Rattle.finish.specs.declared.Finished.TheVariants.{Body}
 use Rattle.finish.specs.Body.{arena_start, header_bytes, pilots_bytes, slot_bytes, held_slot, slots_bytes, body_bytes, placed_of, body_of}
-use Rattle.finish.specs.Finish.{walked, keys_of, lengths_refusal, finish_refusal, answered, body_length, finish_of, FinishPost}
+use Rattle.finish.specs.Finish.{walked, keys_of, lengths_refusal, placing_refusal, answered, body_length, finish_of, FinishPost}
 use Rattle.finish.proofs.LengthLaws.{length_fits}
 use Rattle.finish.proofs.FinishLaws.{refused_late}
+use Rattle.finish.proofs.SelfCheck.{check_passes}
 use Rattle.finish.proofs.Accepted.{finish_accepted, finish_table}
 use Rattle.lines.specs.Shown.{newest_tombstone}
 use Rattle.lines.specs.Listing.{table_text, size_refusal, listing_refusal, text_by, text_of}
@@ -148,10 +149,15 @@ example_length : body_length example_arena (keys_of example_arena) ≡ 204
 unfolding arena_start buckets_of example_arena example_table table_bytes entry_bytes versions_bytes version_bytes bytes_of
 example_length = rw example_keys
 
+never_refused : placing_refusal example_arena (keys_of example_arena) ≡ 0
+unfolding placing_refusal
+never_refused = rw (example_keys, example_placed, check_passes example_arena 3 0 example_placing (omega arith) example_placed)
+
 pub example_finished : (out wide narrow : ℕ) → 204 ≤ out → 6 ≤ wide → 32 ≤ narrow → finish_of example_arena out wide narrow ≡ Body 204
 unfolding finish_of
 example_finished out wide narrow o w u =
-    ap (λ (r : ℕ). answered r (body_length example_arena (keys_of example_arena))) unrefused ∙ ap Body example_length
+    ap (λ (r : ℕ). answered r (body_length example_arena (keys_of example_arena))) (refused_late example_arena out wide narrow fits ∙ never_refused)
+    ∙ ap Body example_length
   where
     fits : lengths_refusal example_arena out wide narrow ≡ 0
     fits =
@@ -159,9 +165,6 @@ example_finished out wide narrow o w u =
         sym
         (length_fits (length example_arena) (walked example_arena).end (keys_of example_arena) out wide narrow example_end
         (λ z. omega arith) (omega arith) (omega arith) (omega arith) (omega (arith, example_length)))
-
-    unrefused : finish_refusal example_arena out wide narrow ≡ 0
-    unrefused = rw (refused_late example_arena out wide narrow fits, example_keys, example_placed)
 
 pub example_fits : finish_of example_arena 204 6 32 ≡ Body 204
 example_fits = example_finished 204 6 32 (omega arith) (omega arith) (omega arith)

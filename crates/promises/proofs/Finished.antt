@@ -2,8 +2,10 @@
 use Prim.Native.Nat.{ℕ, ◌+◌, ◌-◌, ◌<◌, ◌≤◌}
 use native.Mathlib.Omega.{arith}
 use mathlib.Core.Path.{◌≡◌, sym, ap, ◌∙◌, subst}
+use mathlib.Core.Bool.{cond}
 use mathlib.Core.List.{List}
 use mathlib.Core.Logic.{◌⊎◌}
+use lib.Dec.{eqb}
 use lib.ListN.{length, take, length-take}
 use lib.Seq.{take_all, take_at}
 use Rattle.words.specs.Field.{splice}
@@ -26,20 +28,27 @@ use Rattle.builder.proofs.TakenBuffer.{taken_bytes}
 use Rattle.finish.specs.declared.Finished.{Finished}
 use Rattle.finish.specs.declared.Finished.TheVariants.{Body}
 use Rattle.finish.specs.Body.{arena_start, body_of}
-use Rattle.finish.specs.Finish.{walked, keys_of, lengths_refusal, finish_of, FinishPost, finished_number}
+use Rattle.finish.specs.Finish.{walked, keys_of, lengths_refusal, finish_refusal, finish_of, out_after, FinishPost, finished_number}
 use Rattle.finish.proofs.LengthLaws.{length_fits}
+use Rattle.finish.proofs.Answers.{finish_number, body_or_ten}
 use Rattle.finish.proofs.Accepted.{made, finish_accepted, finish_table, finish_length, finish_bytes}
 use Rattle.point.proofs.Theorems.{get_is_lookup, value_is_part}
 use Rattle.promises.specs.Finished.{ListFinished, ReadsLike, RoomFor, OnFinished}
-use Rattle.promises.proofs.Refused.{finish_refusals}
 
 -- ---- the output of a finish that answers a body
 
 module _ {arena out wide narrow out' wide' narrow' : List ℕ} {k : ℕ} (all : AllBytes arena) (P : FinishPost arena out wide narrow (Body k) out' wide' narrow') where
+  no_refusal : finish_refusal arena (length out) (length wide) (length narrow) ≡ 0
+  no_refusal = sym (finish_number arena (length out) (length wide) (length narrow)) ∙ ap finished_number (sym P.answer)
+
+  output_splice : out' ≡ splice out 0 (body_of arena (keys_of arena))
+  unfolding out_after
+  output_splice = P.out_after_is ∙ ap (λ (x : ℕ). cond (eqb x 0) (splice out 0 (body_of arena (keys_of arena))) out) no_refusal
+
   pub output_body : take k out' ≡ body_of arena (keys_of arena)
   unfolding splice
   output_body =
-      ap (take k) P.out_after_is
+      ap (take k) output_splice
       ∙ take_at (body_of arena (keys_of arena)) _ k (finish_length arena (length out) (length wide) (length narrow) k all (sym P.answer))
 
 -- ---- a list that was taken and finished
@@ -106,7 +115,10 @@ lengths_pass {s} {buffer} {list} {out} {wide} {narrow} t any R =
 taken_answered : {s : PointBuilder} {buffer out wide narrow out' wide' narrow' : List ℕ} {list : List Entry} {r : Finished}
     → TakenList s buffer list → 0 < length list → RoomFor s list (length out) (length wide) (length narrow)
     → FinishPost (take s.used buffer) out wide narrow r out' wide' narrow' → (finished_number r ≡ 0) ⊎ (finished_number r ≡ 10)
-taken_answered t any R P = (finish_refusals P).body_or_ten (lengths_pass t any R).1
+taken_answered {s} {buffer} {out} {wide} {narrow} t any R P =
+    let pass = lengths_pass t any R in
+    subst (λ (x : Finished). (finished_number x ≡ 0) ⊎ (finished_number x ≡ 10)) (sym P.answer)
+    (body_or_ten (take s.used buffer) (length out) (length wide) (length narrow) (omega (arith, pass.0)) pass.1)
 
 -- THEOREM: demand 3, of a list that was taken and finished
 pub on_finished : OnFinished

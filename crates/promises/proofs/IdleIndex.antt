@@ -82,7 +82,7 @@ module _ {out wide narrow out' wide' narrow' : List ℕ} {r : Finished} (R : Roo
 
   one_finished : r ≡ Body 78
   unfolding finish_of
-  one_finished = go (body_or_ten one_arena (length out) (length wide) (length narrow) one_fits)
+  one_finished = go (body_or_ten one_arena (length out) (length wide) (length narrow) (omega (arith, one_keys)) one_fits)
     where
       go : (finished_number (finish_of one_arena (length out) (length wide) (length narrow)) ≡ 0) ⊎ (finished_number (finish_of one_arena (length out) (length wide) (length narrow)) ≡ 10) → r ≡ Body 78
       go (inl z) =

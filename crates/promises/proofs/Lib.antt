@@ -5,7 +5,6 @@ pub mod Accepted
 pub mod Taken
 pub mod Finished
 pub mod Filter
-pub mod Attempts
 pub mod Listed
 pub mod Unique
 pub mod Example

@@ -7,7 +7,6 @@ use Rattle.promises.proofs.Accepted.{on_accepted}
 use Rattle.promises.proofs.Taken.{taken_lists, never_oldest_first}
 use Rattle.promises.proofs.Finished.{on_finished}
 use Rattle.promises.proofs.Filter.{on_filter, filter_rules}
-use Rattle.promises.proofs.Attempts.{on_attempts}
 use Rattle.promises.proofs.Listed.{on_listing}
 use Rattle.promises.proofs.Unique.{unique, boundary_unique}
 use Rattle.promises.proofs.Example.{example}
@@ -28,7 +27,6 @@ promised = record {
   answers = answers;
   unique = unique;
   boundary_unique = boundary_unique;
-  on_attempts = on_attempts;
   on_listing = on_listing;
   filter_rules = filter_rules;
   figures = figures;

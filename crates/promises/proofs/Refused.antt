@@ -1,9 +1,11 @@
 -- Demand 1 holds: the causes of each call's numbers, from the laws of its crate. Assumes nothing.
 use Prim.Native.Nat.{ℕ}
 use mathlib.Core.Path.{◌≡◌, sym, ap, ◌∙◌}
+use mathlib.Core.Bool.{Bool, cond}
 use mathlib.Core.List.{List}
 use native.Mathlib.Omega.{arith}
-use lib.ListN.{length}
+use borrow.Author.Tests.{eq-eqb, ne_eqb}
+use lib.ListN.{length, replicate}
 use Rattle.builder.specs.declared.PointBuilder.{PointBuilder}
 use Rattle.builder.specs.declared.Added.{Added}
 use Rattle.builder.specs.declared.OffsetSet.{OffsetSet}
@@ -11,15 +13,16 @@ use Rattle.builder.specs.Add.{Call, added_number, AddPost}
 use Rattle.builder.specs.SetOffset.{set_number, SetPost}
 use Rattle.builder.proofs.Answers.{add_refuses, add_cause, cause_add, set_refuses, set_cause, cause_set}
 use Rattle.finish.specs.declared.Finished.{Finished}
-use Rattle.finish.specs.Finish.{lengths_refusal, finished_number, space_after, FinishPost}
-use Rattle.finish.proofs.Answers.{cause_first, cause_given, ten_attempts, attempts_ten, refused_leaves, body_or_ten, finish_numbers, space_kept, space_zeroed}
+use Rattle.finish.specs.Finish.{finish_refusal, finished_number, out_after, space_after, FinishPost}
+use Rattle.finish.proofs.Answers.{finish_number, cause_first, cause_given, ten_attempts, attempts_ten, never_eleven}
 use Rattle.point.proofs.CauseLaws.{validate_cause, cause_validate, stops_between}
 use Rattle.point.proofs.AnswerLaws.{locate_cause, cause_locate, record_cause, cause_record, open_cause, cause_open, get_cause, cause_get, locate_open, open_get}
 use Rattle.filter.specs.declared.Built.{Built}
-use Rattle.filter.specs.Building.{BuildPost}
+use Rattle.filter.specs.Building.{out_by, hashes_by, space_by, BuildPost}
 use Rattle.filter.proofs.ExactLaws.{refused_none, none_refused, ask_refuses, ask_answers}
 use Rattle.filter.proofs.WrittenLaws.{fifteen_cause, cause_fifteen, six_cause, cause_six}
 use Rattle.filter.proofs.BuiltLaws.{refused_cause, cause_refused, number_refuses}
+use Rattle.sort.specs.Sort.{sorted}
 use Rattle.lines.proofs.Theorems.{listing_cause, cause_listing}
 use Rattle.promises.specs.Refused.{AddRefused, SetRefused, SpaceLeft, FinishRefused, GetRefused, BuildRefused, Demand1}
 
@@ -40,28 +43,31 @@ set_refusals {s} {before} {place} {offset} P = record {
   refused_set = λ n f. ap set_number P.answer ∙ cause_set s before place offset n f;
 }
 
+space_left : (refusal : ℕ) (space after : List ℕ) → after ≡ space_after refusal space → SpaceLeft refusal space after
+space_left refusal space after e = record {
+  kept = λ n. e ∙ ap (λ (b : Bool). cond b (replicate (length space) 0) space) (ne_eqb refusal 0 n);
+  zeroed = λ z. e ∙ ap (λ (b : Bool). cond b (replicate (length space) 0) space) (eq-eqb refusal 0 z);
+}
+
 module _ {arena out wide narrow : List ℕ} {r : Finished} {out' wide' narrow' : List ℕ} (P : FinishPost arena out wide narrow r out' wide' narrow') where
-  -- a workspace after the call
-  space_left : (space after : List ℕ) → after ≡ space_after r space → SpaceLeft (lengths_refusal arena (length out) (length wide) (length narrow)) space after
-  space_left space after e =
-      let by = e ∙ ap (λ (f : Finished). space_after f space) P.answer in
-      record {
-        kept = λ n. by ∙ space_kept arena (length out) (length wide) (length narrow) n space;
-        zeroed = λ z. by ∙ space_zeroed arena (length out) (length wide) (length narrow) z space;
-      }
+  number_is : finished_number r ≡ finish_refusal arena (length out) (length wide) (length narrow)
+  number_is = ap finished_number P.answer ∙ finish_number arena (length out) (length wide) (length narrow)
+
+  out_kept : (finish_refusal arena (length out) (length wide) (length narrow) ≡ 0 → ⊥) → out' ≡ out
+  unfolding out_after
+  out_kept n = P.out_after_is ∙ rw (ne_eqb (finish_refusal arena (length out) (length wide) (length narrow)) 0 n)
 
   pub finish_refusals : FinishRefused arena out wide narrow r out' wide' narrow'
   finish_refusals =
       let given = ap finished_number P.answer in
       record {
-        finish_refused = λ n l e. (cause_first arena (length out) (length wide) (length narrow) n l (sym given ∙ e), P.out_after_is ∙ (refused_leaves r (omega arith)).1 arena out);
+        finish_refused = λ n l e. (cause_first arena (length out) (length wide) (length narrow) n l (sym given ∙ e), out_kept (λ z. omega (arith, number_is)));
         refused_finish = λ n f. given ∙ cause_given arena (length out) (length wide) (length narrow) n f;
         ten_cause = λ e. ten_attempts arena (length out) (length wide) (length narrow) (sym given ∙ e);
         cause_ten = λ z f. given ∙ attempts_ten arena (length out) (length wide) (length narrow) z f;
-        finish_numbers = rw given (finish_numbers arena (length out) (length wide) (length narrow));
-        body_or_ten = λ z. rw given (body_or_ten arena (length out) (length wide) (length narrow) z);
-        wide_space = space_left wide wide' P.wide_after;
-        narrow_space = space_left narrow narrow' P.narrow_after;
+        never_eleven = λ e. never_eleven arena (length out) (length wide) (length narrow) (sym given ∙ e);
+        wide_space = space_left _ wide wide' P.wide_after;
+        narrow_space = space_left _ narrow narrow' P.narrow_after;
       }
 
 get_refusals : (body key : List ℕ) → GetRefused body key
@@ -80,10 +86,15 @@ get_refusals body key = record {
 
 build_refusals : {hashes wide narrow out : List ℕ} {r : Built} {hashes' wide' narrow' out' : List ℕ}
     → BuildPost hashes wide narrow out r hashes' wide' narrow' out' → BuildRefused hashes wide narrow out r hashes' wide' narrow' out'
-build_refusals {r = r} P = record {
+build_refusals {hashes} {wide} {narrow} {out} {r} P = record {
   build_refused = λ n l e.
-      let Q = rw (number_refuses r n l e) at P in
-      (refused_cause P n l e, Q.hashes_after, Q.wide_after, Q.narrow_after, Q.out_after_is);
+      let a = sym P.answer ∙ number_refuses r n l e in (
+        refused_cause P n l e,
+        P.hashes_after ∙ ap (λ (b : Built). hashes_by b hashes) a,
+        P.wide_after ∙ ap (λ (b : Built). space_by b wide) a,
+        P.narrow_after ∙ ap (λ (b : Built). space_by b narrow) a,
+        P.out_after_is ∙ ap (λ (b : Built). out_by b (sorted hashes) out) a,
+      );
   refused_build = cause_refused P;
 }
 

@@ -15,7 +15,7 @@ unique = record {
   empty_unique = one_value _;
   add_unique = λ p t. (same p.answer t.answer, same p.buffer t.buffer);
   set_unique = λ p t. (same p.answer t.answer, same p.buffer t.buffer);
-  finish_unique = λ p t. (cc, cc, cc, cc);
+  finish_unique = λ p t. (same p.answer t.answer, same p.out_after_is t.out_after_is, same p.wide_after t.wide_after, same p.narrow_after t.narrow_after);
   validate_unique = λ body size. one_value _;
   locate_unique = λ body key. one_value _;
   open_record_unique = λ body place key. one_value _;
@@ -26,7 +26,13 @@ unique = record {
   ask_unique = λ bytes hash. one_value _;
   ask_cells_unique = λ f cells hash. one_value _;
   write_unique = λ p t. (same p.answer t.answer, same p.output t.output);
-  build_unique = λ p t. (cc, cc, cc, cc, cc);
+  build_unique = λ p t. (
+    same p.answer t.answer,
+    same p.hashes_after t.hashes_after,
+    same p.wide_after t.wide_after,
+    same p.narrow_after t.narrow_after,
+    same p.out_after_is t.out_after_is,
+  );
   listing_unique = λ p t. (same p.answer t.answer, same p.buffer t.buffer);
 }
 

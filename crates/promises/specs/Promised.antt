@@ -8,7 +8,6 @@ use Rattle.promises.specs.Accepted.{OnAccepted}
 use Rattle.promises.specs.Taken.{TakenLists, NeverOldestFirst}
 use Rattle.promises.specs.Finished.{OnFinished}
 use Rattle.promises.specs.Filter.{OnFilter, FilterRules}
-use Rattle.promises.specs.Attempts.{OnAttempts}
 use Rattle.promises.specs.Listed.{OnListing}
 use Rattle.promises.specs.Unique.{Unique, BoundaryUnique}
 use Rattle.promises.specs.Example.{Example}
@@ -39,8 +38,6 @@ pub record Promised : Type 0 where
   pub answers : Answers
   pub unique : Unique
   pub boundary_unique : BoundaryUnique
-  -- what attempts leave: every slot filled, every hash laid
-  pub on_attempts : OnAttempts
   -- what the desk reads
   pub on_listing : OnListing
   -- the filter's bound and rule, the figures P1 to P9

@@ -1,8 +1,7 @@
 -- Demand 1, "a refused call gives the number listed for its cause and changes nothing lent to it, except the zeroed workspace document 01 names":
 -- of whatever meets a call's contract, a number above 0 is that whose cause is the first that holds, and nothing lent is changed but the
 -- zeroed workspace; and where a cause is the first that holds, its number is given. A record for each call; `Demand1` says that all hold.
-use Rattle.std.specs.Prelude.{ℕ, suc, ◌+◌, ◌<◌, ◌≤◌, ◌≡◌, true, false, ◌⊎◌, length, replicate}
-use mathlib.Core.List.{List, [], ◌∷◌, Memᴰ}
+use Rattle.std.specs.Prelude.{ℕ, suc, ◌+◌, ◌<◌, ◌≤◌, ◌≡◌, true, false, List, length, replicate}
 use Rattle.laws.specs.Refusals.{First}
 use Rattle.words.specs.Field.{AllBytes}
 use Rattle.records.specs.declared.Limit.{Limit}
@@ -44,7 +43,7 @@ pub record SpaceLeft (refusal : ℕ) (space after : List ℕ) : Type 0 where
   pub kept : (refusal ≡ 0 → ⊥) → after ≡ space
   pub zeroed : refusal ≡ 0 → after ≡ replicate (length space) 0
 
--- finish (8, 5, 9, 6, 10)
+-- finish (8, 5, 9, 6, 10, 11)
 pub record FinishRefused (arena out wide narrow : List ℕ) (r : Finished) (out' wide' narrow' : List ℕ) : Type 0 where
   pub finish_refused : (n : ℕ) → 0 < n → finished_number r ≡ n → First n (finish_causes arena (length out) (length wide) (length narrow)) × (out' ≡ out)
   pub refused_finish : (n : ℕ) → First n (finish_causes arena (length out) (length wide) (length narrow)) → finished_number r ≡ n
@@ -55,9 +54,8 @@ pub record FinishRefused (arena out wide narrow : List ℕ) (r : Finished) (out'
       → (lengths_refusal arena (length out) (length wide) (length narrow) ≡ 0) × ((i : ℕ) → i < 8 → AttemptFails (attempt_hashes arena (keys_of arena) i))
   pub cause_ten : lengths_refusal arena (length out) (length wide) (length narrow) ≡ 0 → ((i : ℕ) → i < 8 → AttemptFails (attempt_hashes arena (keys_of arena) i))
       → finished_number r ≡ 10
-  -- no other number is ever given; past 8, 5, 9 and 6 the answer is a body or 10
-  pub finish_numbers : Memᴰ (finished_number r) (0 ∷ 8 ∷ 5 ∷ 9 ∷ 6 ∷ 10 ∷ [])
-  pub body_or_ten : lengths_refusal arena (length out) (length wide) (length narrow) ≡ 0 → (finished_number r ≡ 0) ⊎ (finished_number r ≡ 10)
+  -- 11 self-check: what an attempt places passes it, so 11 is never given
+  pub never_eleven : finished_number r ≡ 11 → ⊥
   -- the workspaces
   pub wide_space : SpaceLeft (lengths_refusal arena (length out) (length wide) (length narrow)) wide wide'
   pub narrow_space : SpaceLeft (lengths_refusal arena (length out) (length wide) (length narrow)) narrow narrow'

@@ -1,6 +1,6 @@
 -- Between the steps: what the functions of finish ask of what they are lent, and what they leave.
-use Rattle.std.specs.Prelude.{ℕ, ◌+◌, ◌-◌, ◌≤◌, ◌<◌, ◌≡◌, cond, List, length, get_or, take}
-use Rattle.std.proofs.Math.Option.{Option, some}
+use Rattle.std.specs.Prelude.{ℕ, ◌+◌, ◌-◌, ◌≤◌, ◌<◌, ◌≡◌, cond, List, eqb, length, get_or, take}
+use Rattle.std.proofs.Math.Option.{some}
 use Rattle.numbers.specs.Limits.{most_keys}
 use Rattle.words.specs.Field.{splice}
 use Rattle.mixing.specs.Mixing.{hash_of, fingerprint_of}
@@ -10,7 +10,7 @@ use Rattle.construct.specs.Keys.{arena_key, attempt_hashes}
 use Rattle.construct.specs.Inner.Layout.{Entries}
 use Rattle.finish.specs.declared.Finished.{Finished}
 use Rattle.finish.specs.Body.{arena_start, slot_bytes, placed_of, body_of}
-use Rattle.finish.specs.Finish.{untaken, answered, body_length}
+use Rattle.finish.specs.Finish.{answered, body_length, placing_refusal}
 
 -- n entries inside the arena, 2n words of 64 bits, and room for the body
 pub record Room (arena out wide : List ℕ) (n : ℕ) : Type 0 where
@@ -52,11 +52,7 @@ pub record SlotsKnown (arena wide pilots slots : List ℕ) (n seed : ℕ) : Type
   pub hashes : (m : ℕ) → m < n → get_or wide m 0 ≡ hash_of seed (arena_key arena m)
   pub slots_filled : Filled n slots
 
--- the refusal once the lengths have passed: 10 where no attempt is taken
-abbrev pub placing_refusal : Option (ℕ × Placing) → ℕ
-placing_refusal o = cond (untaken o) 10 0
-
--- the placing of the keys and what was written of it: nothing where no attempt is taken, else the body
+-- the placing of the keys and what was written of it
 pub record BodyPost (arena out : List ℕ) (n : ℕ) (r : Finished) (out' : List ℕ) : Type 0 where
-  pub answer : r ≡ answered (placing_refusal (placed_of arena n)) (body_length arena n)
-  pub written : out' ≡ cond (untaken (placed_of arena n)) out (splice out 0 (body_of arena n))
+  pub answer : r ≡ answered (placing_refusal arena n) (body_length arena n)
+  pub written : out' ≡ cond (eqb (placing_refusal arena n) 0) (splice out 0 (body_of arena n)) out

@@ -1,71 +1,54 @@
--- The attempts, one after another: the loop's invariant is that those before failed, and that the cells are as they were. Assumes nothing.
-use mathlib.Core.Path.{◌≡◌, refl, ◌∙◌}
-use Prim.Native.Nat.{◌-◌}
-use lib.ListN.{length}
-use native.Mathlib.Omega.{arith}
-use Rattle.filter.proofs.BuildingLaws.{Searching, searching_start, tried_hit, tried_miss, tried_none}
+-- A filter over its cells: the closing check never fails, so its last branch is absurd. Assumes nothing.
+use mathlib.Core.Path.{◌∙◌}
+use Rattle.filter.proofs.BuildingLaws.{construct_none, construct_some, construct_check}
 use borrow.Author.Rules.{rules}
 use Rattle.filter.proofs.building.construct.Statement.{statement}
 use Rattle.filter.proofs.building.construct.Tie as tie
 
-abbrev invariant-loop : tie.invariant-loop
-invariant-loop hashes wide₀ narrow₀ cells₀ s i₀ wide narrow cells i =
-    Searching s hashes i × (length wide ≡ length wide₀) × (length narrow ≡ length narrow₀) × (length cells ≡ length cells₀) × (cells ≡ cells₀)
+search-requires : tie.Need-search-requires
+search-requires c κs = c.before.before.before.before.before.before.before.requires
 
-abbrev decreases-loop : tie.decreases-loop
-decreases-loop hashes wide₀ narrow₀ cells₀ s i₀ wide narrow cells i = 100 - i
-
-loop-holds : tie.Need-loop-init invariant-loop decreases-loop
-loop-holds c = let a = c.before.before.before.before.args in (searching_start a.s a.hashes.now, refl, refl, refl, refl)
-
-attempt-requires : tie.Need-attempt-requires invariant-loop decreases-loop
-attempt-requires c κs =
-    let p = c.before.before.before.before.before.before.before.before.before.before.before.before.requires in
-    let v = c.before.before.before.before.before.before.before.loop.invariant in
-    (record { usable = p.fits.usable; whole = v.3 ∙ p.fits.whole }, p.few, omega (arith, p.wide_room), omega (arith, p.narrow_room), refl)
-
-returns : tie.Need-returns invariant-loop decreases-loop
+returns : tie.Need-returns
 returns c =
-    let t = c.before.before.before.before.before.before.before in
-    let m = t.before.before.before.before.before.before in
-    let l = m.before.before.loop in
-    let a = m.before.before.before.before.before.before.before.args in
-    tried_hit a.s a.hashes.now l.i l.invariant.0 (omega (arith, m.before.loop-test.true)) m.mix.ensures t.attempt.ensures c.if1.true a.cells.now
+    let a = c.before.before.before.before.before.before.before.before.before.before.before.before.before.before.before.args in
+    let h = c.before.before.before.before.before.before.before.search in
+    construct_none a.s a.hashes.now a.cells.now h.new.1.1.1.0 h.result h.ensures c.if1.true
 
-loop-again : tie.Need-loop-preserved invariant-loop decreases-loop
-loop-again c =
-    let t = c.before.before.before.before.before.before.before in
-    let m = t.before.before.before.before.before.before in
-    let l = m.before.before.loop in
-    let a = m.before.before.before.before.before.before.before.args in
-    let f = tried_miss a.s a.hashes.now l.i l.invariant.0 (omega (arith, m.before.loop-test.true)) m.mix.ensures t.attempt.ensures c.if1.false in
-    (f.0, search rules, search rules, search rules, f.1 ∙ l.invariant.4)
+all-present-requires : tie.Need-all-present-requires
+all-present-requires c κs =
+    let p = c.before.before.before.before.before.before.before.before.before.before.before.before.before.before.before.before.before.requires in
+    record { usable = p.fits.usable; whole = search rules ∙ p.fits.whole }
 
-returns-2 : tie.Need-returns-2 invariant-loop decreases-loop
+returns-2 : tie.Need-returns-2
 returns-2 c =
-    let l = c.before.loop in
-    tried_none _ _ _ _ l.i l.invariant.0 c.loop-test.false l.invariant.4
+    let a = c.before.before.before.before.before.before.before.before.before.before.before.before.before.before.before.before.before.before.before.args in
+    let h = c.before.before.before.before.before.before.before.before.before.before.before.search in
+    construct_some a.s a.hashes.now a.cells.now h.new.1.1.1.0 h.result h.ensures c.before.before.before.before.if1.false c.before.before.before.mix.result c.before.before.before.mix.ensures
+
+returns-3 : tie.Need-returns-3
+returns-3 c =
+    let s = c.before.before.before.before.before.before.before.before.before.before.before.before.before.before.before.before.before.before.before in
+    let a = s.args in
+    let h = c.before.before.before.before.before.before.before.before.before.before.before.search in
+    absurd (construct_check a.s a.hashes.now a.cells.now h.new.1.1.1.0 h.result h.ensures c.before.before.before.before.if1.false c.before.before.before.mix.result c.before.before.before.mix.ensures
+    s.requires.fits.usable (c.before.all_present.ensures c.if2.false))
 
 pub construct_spec : {M : Type 1} → statement M
 construct_spec =
     tie.close
     (tie.spec
-    invariant-loop
-    decreases-loop
-    loop-holds
-    (λ c. search rules)
-    (λ c κs. search rules)
-    (λ c. search rules)
-    (λ c. search rules)
-    attempt-requires
+    search-requires
     (λ c. search rules)
     (λ c. search rules)
     (λ c. search rules)
     returns
+    (λ c κs. search rules)
+    all-present-requires
     (λ c. search rules)
     (λ c. search rules)
-    loop-again
+    (λ c. search rules)
+    returns-2
     (λ c. search rules)
     (λ c. search rules)
     (λ c. search rules)
-    returns-2)
+    returns-3)
