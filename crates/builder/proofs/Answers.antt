@@ -5,7 +5,7 @@ use mathlib.Core.Path.{◌≡◌, refl, sym, ap, ◌∙◌}
 use mathlib.Core.Bool.{Bool, true, false, not}
 use mathlib.Core.List.{List, [], ◌∷◌}
 use native.Mathlib.Omega.{arith}
-use borrow.Author.Tests.{le-ltb, lt-leb, le_leb, ne_eqb}
+use borrow.Author.Tests.{le-ltb, lt-leb, le-leb, ne_eqb}
 use lib.ListN.{length, drop}
 use lib.Seq.{drop-drop}
 use Rattle.laws.specs.Refusals.{First, here, later, None, none_here, none_more}
@@ -107,7 +107,7 @@ module _ (s : PointBuilder) (buffer : List ℕ) (call : Call) where
   unfolding continued_causes
   oldest_first_refused k w ne same not-below =
       add_refuses (sized_first k (rw w
-      (later (ne_eqb s.keys 0 ne) (later (ap not (ap (λ (k : List ℕ). same_as k call.key) same ∙ same_self call.key)) (here (le_leb (last_of s buffer).sequence call.sequence not-below) refl)))))
+      (later (ne_eqb s.keys 0 ne) (later (ap not (ap (λ (k : List ℕ). same_as k call.key) same ∙ same_self call.key)) (here (le-leb (last_of s buffer).sequence call.sequence not-below) refl)))))
 
   untouched : (new_key : Bool) → call.new_key ≡ new_key → add_refusal s buffer call ≡ 0
       → (drop (next_state s call).used (appended s buffer call) ≡ drop (next_state s call).used buffer) × (length (appended s buffer call) ≡ length buffer)

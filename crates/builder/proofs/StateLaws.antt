@@ -4,7 +4,7 @@ use mathlib.Core.Path.{◌≡◌, refl, sym, ◌∙◌}
 use mathlib.Core.Bool.{Bool, true, false, ◌&&◌, and-eq-true_iff}
 use mathlib.Core.List.{List}
 use native.Mathlib.Omega.{arith}
-use borrow.Author.Tests.{leb-true, eqb-true, eqb-false, le_leb, eq-eqb, ne_eqb}
+use borrow.Author.Tests.{leb-true, eqb-true, eqb-false, le-leb, eq-eqb, ne_eqb}
 use lib.Dec.{leb, eqb}
 use lib.ListN.{length}
 use Rattle.numbers.specs.Limits.{most_key_bytes, most_keys}
@@ -52,7 +52,7 @@ module _ (s : PointBuilder) (buffer : List ℕ) where
     unfolding fits_at
     fits_given f =
         fits_some
-        ∙ rw (le_leb s.keys most_keys f.few, le_leb s.used (length buffer) f.inside, le_leb (s.head + 8) s.used f.headed, le_leb (key_length buffer s.head) most_key_bytes f.short, le_leb 1 (version_count buffer s.head) f.versioned, eq-eqb (next_entry buffer s.head) s.used f.whole)
+        ∙ rw (le-leb s.keys most_keys f.few, le-leb s.used (length buffer) f.inside, le-leb (s.head + 8) s.used f.headed, le-leb (key_length buffer s.head) most_key_bytes f.short, le-leb 1 (version_count buffer s.head) f.versioned, eq-eqb (next_entry buffer s.head) s.used f.whole)
 
     pub fits_not : (Fitting s buffer → ⊥) → false ≡ fits s buffer
     fits_not bad = go (fits s buffer) refl

@@ -8,7 +8,7 @@ use native.Mathlib.Nat.{zero-add, add-sub_cancel_left}
 use native.Mathlib.Numerals.{add-one, lt_of_le_of_ne}
 use native.Mathlib.Omega.{arith}
 use lib.ListN.{length, get_or, set, take, drop, length-drop}
-use lib.Seq.{length-take-le, get_or_take, take_set_le}
+use lib.Seq.{length-take-le, get_or-take, take-set-le}
 use Rattle.laws.specs.Steps.{least, steps}
 use Rattle.laws.proofs.StepsLaws.{steps_none, steps_more, steps_failed}
 use Rattle.construct.specs.Construct.{buckets_of, direct, tries, group, size, seat, Placing, pilot_noted, place_group, place_of, place_size, place_down, twins, twins_at}
@@ -38,7 +38,7 @@ bench_kept wide narrow narrow' n b B len same = record {
     nb = ap buckets_of (length-take-le n wide (omega (arith, B.long))) ∙ sym B.count
 
     at : (k : ℕ) → k ≤ b → get_or narrow' k 0 ≡ get_or narrow k 0
-    at k l = sym (get_or_take (pilots_from b) narrow' k 0 (omega arith)) ∙ ap (λ (x : List ℕ). get_or x k 0) same ∙ get_or_take (pilots_from b) narrow k 0 (omega arith)
+    at k l = sym (get_or-take (pilots_from b) narrow' k 0 (omega arith)) ∙ ap (λ (x : List ℕ). get_or x k 0) same ∙ get_or-take (pilots_from b) narrow k 0 (omega arith)
 
 pub same_placing : (p p' s s' : List ℕ) → p ≡ p' → s ≡ s' → ◌≡◌ {A = Placing} (record { pilots = p; slots = s }) (record { pilots = p'; slots = s' })
 same_placing p p' s s' e f i = record { pilots = e i; slots = f i }
@@ -100,7 +100,7 @@ module _ (wide narrow : List ℕ) (n b : ℕ) (B : Bench wide narrow n b) where
       group_some z len = (
         ap (map (pilot_noted k 0 (placing n b narrow))) (subst (λ (x : List ℕ). least (λ p. seat (take n wide) x p (length x) (slots_in n b narrow)) tries 0 ≡ some (r, t)) e (f.hit (lt_of_le_of_ne f.most z)))
             ∙ ap some (same_placing _ _ _ _ (sym pilots) (sym slots)),
-        take_set_le (pilots_from b) (back (slots_from b) n t narrow) (pilots_from b + k) r (omega arith) ∙ back_before narrow (slots_from b) n t fits 0 (pilots_from b) (omega arith),
+        take-set-le (pilots_from b) (back (slots_from b) n t narrow) (pilots_from b + k) r (omega arith) ∙ back_before narrow (slots_from b) n t fits 0 (pilots_from b) (omega arith),
       )
         where
           fits : slots_from b ≤ length narrow

@@ -3,7 +3,7 @@ use Prim.Native.Nat.{ℕ, zero, suc, ◌+◌, ◌-◌, ◌<◌}
 use mathlib.Core.Path.{◌≡◌, refl, sym, ap, ◌∙◌, subst}
 use mathlib.Core.Bool.{Bool, true, false, cond, false≢true}
 use mathlib.Core.List.{List}
-use mathlib.Core.Option.{Option, none, some, map-eq-some_iff, some-injective, none-ne-some, some_ne_none}
+use mathlib.Core.Option.{Option, none, some, map-eq-some_iff, some-injective, none-ne-some, some-ne-none}
 use native.Mathlib.Nat.{zero-add}
 use native.Mathlib.Omega.{arith}
 use native.Mathlib.Decide.{ℕ_discrete}
@@ -70,7 +70,7 @@ module _ (hs : List ℕ) (pos : 0 < length hs) (k : ℕ) (low : k < buckets_of (
           low = omega (arith, f.1);
           named = refl;
           free = (settle_some at m pl.slots r.0.1 f.0).0;
-          lowest = λ a l z. some_ne_none _ (sym (settle_free a m pl.slots z) ∙ least_before try (length hs) 0 at r.0.1 r.1 a (omega arith) l);
+          lowest = λ a l z. some-ne-none _ (sym (settle_free a m pl.slots z) ∙ least_before try (length hs) 0 at r.0.1 r.1 a (omega arith) l);
         },
         ap (λ (x : Placing). x.pilots) r.2,
       )

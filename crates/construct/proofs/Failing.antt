@@ -3,7 +3,7 @@ use Prim.Native.Nat.{ℕ, ◌-◌, ◌<◌}
 use mathlib.Core.Path.{◌≡◌, refl, sym, ap, ◌∙◌, subst}
 use mathlib.Core.Bool.{Bool, true, false, cond}
 use mathlib.Core.List.{List}
-use mathlib.Core.Option.{none, some, map, map-eq-none_iff, some_ne_none}
+use mathlib.Core.Option.{none, some, map, map-eq-none_iff, some-ne-none}
 use mathlib.Core.Logic.{inl, inr}
 use native.Mathlib.Omega.{arith}
 use native.Mathlib.Decide.{ℕ_discrete, dec_lt}
@@ -135,7 +135,7 @@ module _ (hs : List ℕ) (pos : 0 < length hs) where
       go t top l e k pl low e' z = sized (ℕ_discrete (size hs k) (largest hs - t))
         where
           sized : Dec (size hs k ≡ largest hs - t) → NoPilot hs
-          sized (no d) = absurd (some_ne_none pl (sym (of_skips hs (largest hs - t) k pl d) ∙ z))
+          sized (no d) = absurd (some-ne-none pl (sym (of_skips hs (largest hs - t) k pl d) ∙ z))
           sized (yes d) =
               stuck k low pl
               (record {

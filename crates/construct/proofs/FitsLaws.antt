@@ -2,7 +2,7 @@
 use Prim.Native.Nat.{ℕ, zero, suc, ◌≤◌, ◌<◌}
 use mathlib.Core.Path.{◌≡◌, refl, sym, ap, ◌∙◌}
 use mathlib.Core.List.{List}
-use mathlib.Core.Option.{Option, none, some, some_ne_none}
+use mathlib.Core.Option.{Option, none, some, some-ne-none}
 use native.Mathlib.Omega.{arith}
 use native.Mathlib.Decide.{ℕ_discrete}
 use native.Mathlib.Numerals.{lt_of_le_of_ne}
@@ -98,7 +98,7 @@ module _ (hs ms : List ℕ) (p : ℕ) (s : List ℕ) (low : (i : ℕ) → spot h
   pub unseated : seat hs ms p (length ms) s ≡ none → PilotFits hs ms p s → ⊥
   unseated h F =
       let w = fits_seat F in
-      some_ne_none w.0 (sym w.1 ∙ h)
+      some-ne-none w.0 (sym w.1 ∙ h)
 
   pub unfit : (PilotFits hs ms p s → ⊥) → seat hs ms p (length ms) s ≡ none
   unfit no-fit = go (seat hs ms p (length ms) s) refl

@@ -3,7 +3,7 @@ use Prim.Native.Nat.{ℕ, zero, suc, ◌+◌, ◌-◌, ◌≤◌, ◌<◌}
 use mathlib.Core.Path.{◌≡◌, refl, sym, ap, ap₂, ◌∙◌, subst}
 use mathlib.Core.Bool.{Bool, true, false, cond, ◌||◌, ◌&&◌, and-false, and-true, false≢true}
 use mathlib.Core.List.{List}
-use mathlib.Core.Option.{Option, none, some, map-eq-some_iff, map-eq-none_iff, some-injective, none-ne-some, some_ne_none}
+use mathlib.Core.Option.{Option, none, some, map-eq-some_iff, map-eq-none_iff, some-injective, none-ne-some, some-ne-none}
 use mathlib.Core.Logic.{inl, inr, ⊎_elim}
 use native.Mathlib.Nat.{zero-add, sub-zero, le-pred_of_lt}
 use native.Mathlib.Omega.{arith}
@@ -187,7 +187,7 @@ module _ (hs : List ℕ) (pos : 0 < length hs) (D D' : ℕ → Bool) (k : ℕ) (
   single_finds pl one w h =
       let r = (map-eq-none_iff (pilot_noted k direct pl) (least (λ at. settle at (get_or (group hs k) 0 0) pl.slots) (length hs) 0)).0 h in
       let q = some_free pl.slots (omega (arith, room, w.slots_long)) in
-      some_ne_none (set pl.slots q.0 (suc (get_or (group hs k) 0 0)))
+      some-ne-none (set pl.slots q.0 (suc (get_or (group hs k) 0 0)))
       (sym (settle_free q.0 (get_or (group hs k) 0 0) pl.slots q.2) ∙ least_none (λ at. settle at (get_or (group hs k) 0 0) pl.slots) (length hs) 0 r q.0 (omega arith) (omega (arith, q.1, w.slots_long)))
     where
       f : ℕ → ℕ

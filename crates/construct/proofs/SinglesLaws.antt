@@ -9,7 +9,7 @@ use native.Mathlib.Decide.{ℕ_discrete}
 use native.Mathlib.Numerals.{add-one, lt_of_le_of_ne}
 use native.Mathlib.Omega.{arith}
 use lib.ListN.{length, get_or, set, take, drop}
-use lib.Seq.{get_or_take, get_or-drop, get_or-set_same, get_or-set_other, take_set_le}
+use lib.Seq.{get_or-take, get_or-drop, get_or-set_same, get_or-set_other, take-set-le}
 use Rattle.laws.proofs.StepsLaws.{least_at, least_of_none}
 use Rattle.construct.specs.Construct.{direct, group, size, settle, pilot_noted, place_single, place_of}
 use Rattle.construct.specs.Inner.Layout.{Bench, Stepped, FilledBelow, Lowest, SingleOf}
@@ -26,7 +26,7 @@ module _ (wide narrow : List ℕ) (n b : ℕ) (B : Bench wide narrow n b) (k : �
       let c = n + get_or narrow k 0 in
       let m = n + get_or narrow (k + 1) 0 - (n + get_or narrow k 0) in
       ap (λ (x : ℕ). get_or wide x 0) (sym (add-zero c))
-      ∙ sym (get_or_take m (drop c wide) 0 0 (omega arith) ∙ get_or-drop c wide 0 0)
+      ∙ sym (get_or-take m (drop c wide) 0 0 (omega arith) ∙ get_or-drop c wide 0 0)
       ∙ ap (λ (x : List ℕ). get_or x 0 0) (bench_group wide narrow n b B k l)
 
   pub single_key : get_or wide (n + get_or narrow k 0) 0 < n
@@ -67,7 +67,7 @@ module _ (wide narrow : List ℕ) (n b : ℕ) (B : Bench wide narrow n b) (k : �
           (least_at (λ a. settle a m (slots_in n b narrow)) (length (take n wide)) at (set (slots_in n b narrow) at (suc m)) (omega (arith, bench_keys wide narrow n b B))
           (λ q z. settle_taken q m (slots_in n b narrow) (t q z)) (settle_free at m (slots_in n b narrow) free))
           ∙ ap some (same_placing _ _ _ _ (sym pilots) (ap (set (slots_in n b narrow) at) (sym value) ∙ sym slots)),
-      take_set_le (pilots_from b) (set narrow (slots_from b + at) v) (pilots_from b + k) (direct + at) (omega arith) ∙ take_set_le (pilots_from b) narrow (slots_from b + at) v (omega arith),
+      take-set-le (pilots_from b) (set narrow (slots_from b + at) v) (pilots_from b + k) (direct + at) (omega arith) ∙ take-set-le (pilots_from b) narrow (slots_from b + at) v (omega arith),
     )
       where
         m : ℕ

@@ -3,7 +3,7 @@ use mathlib.Core.Path.{◌≡◌, refl, sym, ap, ◌∙◌, subst}
 use mathlib.Core.Bool.{Bool, true, false, cond}
 use mathlib.Core.Logic.{inl, inr}
 use mathlib.Core.List.{List, [], ◌∷◌}
-use mathlib.Core.Option.{Option, none, some, some-injective, some_ne_none, none-ne-some}
+use mathlib.Core.Option.{Option, none, some, some-injective, some-ne-none, none-ne-some}
 use Prim.Native.Nat.{ℕ, zero, suc, ◌+◌, ◌-◌, ◌*◌, ◌^◌, ◌≤◌, ◌<◌}
 use native.Mathlib.Omega.{arith}
 use lib.Dec.{ltb}
@@ -100,7 +100,7 @@ seed_split true x a e = (refl, some-injective x a e)
 seed_split false x a e = absurd (none-ne-some a e)
 
 seed_fails : (b : Bool) (x : ℕ) → cond b (some x) none ≡ none → b ≡ false
-seed_fails true x e = absurd (some_ne_none x e)
+seed_fails true x e = absurd (some-ne-none x e)
 seed_fails false x e = refl
 
 module _ (s : Sizes) (hs : List ℕ) where

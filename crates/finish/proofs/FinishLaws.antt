@@ -8,8 +8,8 @@ use mathlib.Core.Path.{◌≡◌, refl, sym, ap, ap₂, ◌∙◌, subst}
 use mathlib.Core.Bool.{Bool, false, cond}
 use mathlib.Core.List.{List, [], ◌∷◌, ◌++◌}
 use mathlib.Core.Option.{Option, none, some}
-use lib.ListN.{length, get_or, take, drop, length-drop, replicate, get_or_append}
-use lib.Seq.{get_or_take, get_or_at, length-take-le}
+use lib.ListN.{length, get_or, take, drop, length-drop, replicate, get_or-append}
+use lib.Seq.{get_or-take, get_or_at, length-take-le}
 use lib.Dec.{eqb}
 use borrow.Author.Tests.{ne_eqb}
 use Rattle.laws.specs.Refusals.{or_else, Numbered}
@@ -113,7 +113,7 @@ hash_at seed arena (suc n) m l = go (ℕ_discrete m n) (λ lt. hash_at seed aren
     go (yes e) rest = get_or_at (hashes_of seed arena n) (hash_of seed (arena_key arena n)) [] 0 m (hashes_long seed arena n ∙ sym e) ∙ ap (λ (x : ℕ). hash_of seed (arena_key arena x)) (sym e)
     go (no e) rest =
         let lt : m < n = lt_of_le_of_ne (omega arith) e in
-        get_or_append (hashes_of seed arena n) (hash_of seed (arena_key arena n) ∷ []) 0 m (omega (arith, hashes_long seed arena n)) ∙ rest lt
+        get_or-append (hashes_of seed arena n) (hash_of seed (arena_key arena n) ∷ []) 0 m (omega (arith, hashes_long seed arena n)) ∙ rest lt
 
 module _ (arena wide pilots slots : List ℕ) (n i : ℕ) (C : AttemptTaken arena wide pilots slots n i) where
   -- 11 by the self-check of what was left
@@ -131,7 +131,7 @@ module _ (arena wide pilots slots : List ℕ) (n i : ℕ) (C : AttemptTaken aren
   chosen_written seed es e = record {
     pilots_long = C.pilots_long;
     slots_long = C.slots_long;
-    hashes = λ m lm. sym (get_or_take n wide m 0 lm) ∙ ap (λ (z : List ℕ). get_or z m 0) C.hashes ∙ hash_at (seed_of i) arena n m lm ∙ ap (λ (x : ℕ). hash_of x (arena_key arena m)) (sym es);
+    hashes = λ m lm. sym (get_or-take n wide m 0 lm) ∙ ap (λ (z : List ℕ). get_or z m 0) C.hashes ∙ hash_at (seed_of i) arena n m lm ∙ ap (λ (x : ℕ). hash_of x (arena_key arena m)) (sym es);
     slots_filled = subst (λ (x : ℕ). Filled x slots) C.slots_long (all_filled (take n wide) pilots slots e);
   }
 

@@ -1,5 +1,5 @@
 -- Laws of the test of sizes: what it passes, as facts. Assumes nothing.
-use Rattle.std.proofs.Common.{◌≡◌, ℕ, ◌+◌, ◌*◌, ◌^◌, ◌<◌, ◌≤◌, Bool, true, false, ◌&&◌, eqb, ltb, leb, sym, lt_of_le_of_lt, mul-le-mul, arith, ltb-true, lt-ltb, eq-eqb, eqb-true, le_leb, leb-true}
+use Rattle.std.proofs.Common.{◌≡◌, ℕ, ◌+◌, ◌*◌, ◌^◌, ◌<◌, ◌≤◌, Bool, true, false, ◌&&◌, eqb, ltb, leb, sym, lt_of_le_of_lt, mul-le-mul, arith, ltb-true, lt-ltb, eq-eqb, eqb-true, le-leb, leb-true}
 use mathlib.Core.Bool.{and-eq-true_iff}
 use lib.Count.{ones}
 use Rattle.laws.proofs.Cases.{by_test}
@@ -16,7 +16,7 @@ segment_accepted segment e =
     (ones_power segment (eqb-true _ _ p.0), leb-true _ _ p.1)
 
 pub segment_accepts : (segment : ℕ) → PowerOfTwo segment → segment ≤ 262144 → segment_test segment ≡ true
-segment_accepts segment p l = simp (eq-eqb _ _ (power_ones segment p), le_leb _ _ l)
+segment_accepts segment p l = simp (eq-eqb _ _ (power_ones segment p), le-leb _ _ l)
 
 -- what the test passes is accepted
 pub fitting_accepted : (s : Sizes) (cells : ℕ) → fitting s cells ≡ true → Accepted s cells
@@ -47,7 +47,7 @@ fitting_accepted s cells e =
 pub fitting_last : (s : Sizes) (cells : ℕ) → 1 ≤ s.keys → s.keys < 2 ^ 32 → ones s.segment ≡ 1 → s.segment ≤ 262144 → 1 ≤ s.count
     → cells_in s.segment s.count < 2 ^ 32 → eqb cells (cells_in s.segment s.count) ≡ fitting s cells
 unfolding fitting
-fitting_last s cells a b c d e f = simp (le_leb _ _ a, lt-ltb _ _ b, eq-eqb _ _ c, le_leb _ _ d, le_leb _ _ e, lt-ltb _ _ f)
+fitting_last s cells a b c d e f = simp (le-leb _ _ a, lt-ltb _ _ b, eq-eqb _ _ c, le-leb _ _ d, le-leb _ _ e, lt-ltb _ _ f)
 
 -- and what is accepted passes
 pub accepted_fitting : (s : Sizes) (cells : ℕ) → Accepted s cells → fitting s cells ≡ true
@@ -55,10 +55,10 @@ unfolding fitting
 accepted_fitting s cells a =
     let u = a.fits.usable in
     simp (
-      le_leb _ _ a.some_key,
+      le-leb _ _ a.some_key,
       lt-ltb _ _ a.few_keys,
       segment_accepts s.segment u.power u.most,
-      le_leb _ _ u.counted,
+      le-leb _ _ u.counted,
       lt-ltb _ _ u.small,
       eq-eqb _ _ a.fits.whole,
     )

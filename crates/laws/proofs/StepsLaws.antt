@@ -1,8 +1,8 @@
 -- The laws of loops as functions: steps that can fail, the least number that succeeds, tests, sums and the greatest value. Assumes nothing.
 use Prim.Native.Nat.{ℕ, zero, suc, ◌+◌, ◌-◌, ◌≤◌, ◌<◌, max}
 use mathlib.Core.Path.{◌≡◌, refl, sym, ap, ◌∙◌, subst}
-use mathlib.Core.Bool.{Bool, true, false, ◌||◌, false≢true, or_true}
-use mathlib.Core.Option.{Option, none, some, bind, bind-eq-some_iff, some-injective, some_ne_none, none-ne-some}
+use mathlib.Core.Bool.{Bool, true, false, ◌||◌, false≢true, or-true}
+use mathlib.Core.Option.{Option, none, some, bind, bind-eq-some_iff, some-injective, some-ne-none, none-ne-some}
 use native.Mathlib.Nat.{zero-add, suc-add, add-zero}
 use native.Mathlib.Omega.{arith}
 use native.Mathlib.Decide.{ℕ_discrete}
@@ -33,7 +33,7 @@ module _ {S : Type 0} (f : ℕ → S → Option S) where
   -- what failed steps failed at
   pub steps_why : (n : ℕ) (s : S) → steps f n s ≡ none → (i : ℕ) × (t : S) × (i < n) × (steps f i s ≡ some t) × (f i t ≡ none)
   unfolding steps
-  steps_why zero s h = absurd (some_ne_none s h)
+  steps_why zero s h = absurd (some-ne-none s h)
   steps_why (suc n) s h = go (steps f n s) refl (λ e. steps_why n s e)
     where
       Why : ℕ → Type 0
@@ -105,7 +105,7 @@ module _ {A : Type 0} (try : ℕ → Option A) where
   least_none (suc count) p h q l l' = go (try p) refl (ℕ_discrete p q) (λ e lt. least_none count (suc p) (sym (least_miss count p e) ∙ h) q lt (omega arith))
     where
       go : (o : Option A) → try p ≡ o → Dec (p ≡ q) → (try p ≡ none → p < q → try q ≡ none) → try q ≡ none
-      go (some x) e d rest = absurd (some_ne_none (p, x) (sym (least_hit count p x e) ∙ h))
+      go (some x) e d rest = absurd (some-ne-none (p, x) (sym (least_hit count p x e) ∙ h))
       go none e (yes w) rest = ap try (sym w) ∙ e
       go none e (no w) rest = rest e (lt_of_le_of_ne l w)
 
@@ -139,7 +139,7 @@ module _ (test : ℕ → Bool) where
   any_some i (suc n) l h = go (ℕ_discrete i n) (λ lt. any_some i n lt h)
     where
       go : Dec (i ≡ n) → (i < n → any_below test n ≡ true) → (any_below test n || test n) ≡ true
-      go (yes e) rest = ap (λ (x : Bool). any_below test n || x) (ap test (sym e) ∙ h) ∙ or_true (any_below test n)
+      go (yes e) rest = ap (λ (x : Bool). any_below test n || x) (ap test (sym e) ∙ h) ∙ or-true (any_below test n)
       go (no e) rest = ap (λ (x : Bool). x || test n) (rest (lt_of_le_of_ne (omega arith) e))
 
   pub any_why : (n : ℕ) → any_below test n ≡ true → (i : ℕ) × (i < n) × (test i ≡ true)

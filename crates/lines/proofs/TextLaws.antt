@@ -7,7 +7,7 @@ use mathlib.Core.Bool.{Bool, true, false, cond}
 use mathlib.Core.List.{List, ◌∷◌, ◌++◌}
 use lib.ListN.{length, length-append}
 use lib.Dec.{leb}
-use borrow.Author.Tests.{le_leb, lt-leb, leb-true}
+use borrow.Author.Tests.{le-leb, lt-leb, leb-true}
 use Rattle.words.proofs.Laws.{splice_sets}
 use Rattle.text.specs.Text.{decimal, field, named}
 use Rattle.text.specs.Inner.Written.{Ends, WrittenAt}
@@ -62,7 +62,7 @@ module _ {text before none rest : List ℕ} {size : ℕ} (measured : WrittenAt n
   pub lists_fit : {after : List ℕ} {end : ℕ} → size ≤ length before → WrittenAt before 0 text after end → Lists text before (Text size) after
   unfolding listed_of buffer_of
   lists_fit h w =
-      let g = le_leb (length text) (length before) (omega (arith, measured.place)) in
+      let g = le-leb (length text) (length before) (omega (arith, measured.place)) in
       record {
         answer = rw g (ap Text (measured.place ∙ zero-add (length text)));
         buffer = rw g (w.buffer ∙ splice_sets before 0 text (omega (arith, measured.place)));

@@ -7,7 +7,7 @@ use mathlib.Core.Bool.{Bool, true, false, cond}
 use mathlib.Core.List.{List, [], ◌∷◌, ◌++◌, Memᴰ}
 use mathlib.Core.Option.{Option, none, some}
 use lib.ListN.{length}
-use borrow.Author.Tests.{leb-false, le_leb, lt-leb}
+use borrow.Author.Tests.{leb-false, le-leb, lt-leb}
 use lib.Dec.{leb}
 use Rattle.words.specs.Field.{splice}
 use Rattle.words.specs.declared.part.Order.TheVariants.{Less}
@@ -178,11 +178,11 @@ module _ {rule : Rule} {input before : List ℕ} {r : Listed} {after : List ℕ}
       → (listed_number r ≡ 0) × (listed_values r ≡ length (text_of rule input) ∷ []) × (after ≡ splice before 0 (text_of rule input))
   unfolding listed_of buffer_of
   room_values l =
-      let t = le_leb (length (text_of rule input)) (length before) l in
+      let t = le-leb (length (text_of rule input)) (length before) l in
       let a : r ≡ Text (length (text_of rule input)) = P.answer ∙ rw t in
       (ap listed_number a, ap listed_values a, P.buffer ∙ rw t)
 
   -- THEOREM: 131,072 bytes of room suffice for every input
   pub room_suffices : 131072 ≤ length before → r ≡ Text (length (text_of rule input))
   unfolding listed_of
-  room_suffices h = P.answer ∙ rw (le_leb (length (text_of rule input)) (length before) (omega (arith, P.room)))
+  room_suffices h = P.answer ∙ rw (le-leb (length (text_of rule input)) (length before) (omega (arith, P.room)))

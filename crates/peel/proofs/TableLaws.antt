@@ -3,7 +3,7 @@ use Rattle.std.proofs.Common.{◌≡◌, ℕ, zero, suc, ◌+◌, ◌-◌, ◌^�
 use native.Mathlib.Nat.{sub-zero}
 use borrow.Author.Tests.{eqb-false}
 use lib.Bits.{bit_xor, xor_zero_r, xor_comm}
-use lib.ListN.{length-replicate, get_or-replicate, get_or_append}
+use lib.ListN.{length-replicate, get_or-replicate, get_or-append}
 use Rattle.laws.proofs.Cases.{by_test}
 use Rattle.laws.specs.Count.{one, occurs, among, keep, without, rising}
 use Rattle.laws.proofs.Lists.{drop_next}
@@ -332,7 +332,7 @@ pub cleared : (c : ℕ) (xs front : List ℕ) → front ≡ replicate (length (t
 cleared c xs front e l v h =
     let k = length-take-le c xs l in
     let n : v < length front = omega (arith, ap length e, length-replicate {A = ℕ} (length (take c xs)) 0) in
-    get_or_append front (drop c xs) 0 v n ∙ ap (λ (z : List ℕ). get_or z v 0) e ∙ get_or-replicate (length (take c xs)) v 0 0 (omega arith)
+    get_or-append front (drop c xs) 0 v n ∙ ap (λ (z : List ℕ). get_or z v 0) e ∙ get_or-replicate (length (take c xs)) v 0 0 (omega arith)
 
 -- one turn of loading: the hash before the i-th place is added
 pub tables_load : (pos : ℕ → List ℕ) (c : ℕ) (hs d x d' x' ps : List ℕ) (h i : ℕ) → 0 < i → i ≤ length hs → h ≡ get_or hs (i - 1) 0 → ps ≡ pos h → Placed c pos h → length hs < 2 ^ 32

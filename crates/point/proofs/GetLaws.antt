@@ -8,7 +8,7 @@ use mathlib.Core.List.{List, []}
 use mathlib.Core.Bool.{Bool, true, false, cond}
 use lib.ListN.{length, take, drop}
 use lib.Dec.{ltb}
-use borrow.Author.Tests.{ltb-false, lt-ltb, le-ltb, le_leb, lt-leb, eq-eqb, ne_eqb}
+use borrow.Author.Tests.{ltb-false, lt-ltb, le-ltb, le-leb, lt-leb, eq-eqb, ne_eqb}
 use Rattle.words.specs.Field.{le}
 use Rattle.words.specs.Field.{AllBytes}
 use Rattle.words.specs.Part.{same_as}
@@ -46,7 +46,7 @@ module _ (body : List ℕ) (h n g : ℕ) (isn : n ≡ keys_in body) (isg : g ≡
 
   pub locate_past : direct + n ≤ g → locate_hash body h ≡ located.Damaged
   unfolding locate_hash
-  locate_past l = rw (← isn, ← isg, le_leb (direct + n) g l)
+  locate_past l = rw (← isn, ← isg, le-leb (direct + n) g l)
 
   module _ (l : g < direct + n) (s f u : ℕ) (iss : s ≡ slot_place body (slot_of body h)) (isu : u ≡ le 2 body (s + 8)) (isf : f ≡ fingerprint_of h) where
     pub locate_other : (u ≡ f → ⊥) → locate_hash body h ≡ located.Nothing

@@ -4,7 +4,7 @@ use native.Mathlib.Omega.{arith}
 use mathlib.Core.Path.{◌≡◌, refl, sym, ap, ◌∙◌}
 use mathlib.Core.List.{List, map}
 use borrow.Author.Tests.{le-ltb}
-use lib.ListN.{length, take, get_or, length-map, get_or_append}
+use lib.ListN.{length, take, get_or, length-map, get_or-append}
 use Rattle.laws.specs.Refusals.{first_of}
 use Rattle.laws.proofs.RefusalLaws.{or_else_zero}
 use Rattle.laws.specs.Count.{occurs}
@@ -119,7 +119,7 @@ module _ {hashes wide narrow out answer hashes' wide' narrow' out' answer' : Lis
         let values = map (filter_ask_of (take (get_or answer' 0 0) out')) asked in
         let put : answers' ≡ splice answers 0 values = A.answers_after ∙ rw (roomy, each.1) in
         ap (λ (t : List ℕ). get_or t i 0) (put ∙ splice_front answers values)
-        ∙ get_or_append values _ 0 i (omega (arith, length-map asked (filter_ask_of (take (get_or answer' 0 0) out'))))
+        ∙ get_or-append values _ 0 i (omega (arith, length-map asked (filter_ask_of (take (get_or answer' 0 0) out'))))
         ∙ map_at (filter_ask_of (take (get_or answer' 0 0) out')) asked i l
         ∙ call_present (get_or asked i 0) k
 

@@ -4,7 +4,7 @@ use native.Mathlib.Omega.{arith}
 use mathlib.Core.Path.{◌≡◌, refl, sym, ap, ◌∙◌, subst}
 use mathlib.Core.List.{List, [], ◌∷◌}
 use mathlib.Core.Logic.{◌⊎◌, inl, inr}
-use mathlib.Core.Option.{some_ne_none}
+use mathlib.Core.Option.{some-ne-none}
 use lib.ListN.{length, take}
 use Rattle.laws.specs.Each.{each_none, each_more}
 use Rattle.words.specs.Field.{spelled, le, bytes_of}
@@ -68,7 +68,7 @@ one_hashes i = ap (λ (n : ℕ). attempt_hashes one_arena n i) one_keys
 
 one_number : (out wide narrow : ℕ) → finished_number (finish_of one_arena out wide narrow) ≡ 10 → ⊥
 one_number out wide narrow e =
-    some_ne_none _ (sym (one_key_is (hash_of (seed_of 0) (arena_key one_arena 0))) ∙ ap attempt_of (sym (one_hashes 0)) ∙ ten_exhausts one_arena out wide narrow e 0 (omega arith))
+    some-ne-none _ (sym (one_key_is (hash_of (seed_of 0) (arena_key one_arena 0))) ∙ ap attempt_of (sym (one_hashes 0)) ∙ ten_exhausts one_arena out wide narrow e 0 (omega arith))
 
 never_ten : {out wide narrow out' wide' narrow' : List ℕ} → FinishPost one_arena out wide narrow (Refused 10) out' wide' narrow' → ⊥
 never_ten {out} {wide} {narrow} P = one_number (length out) (length wide) (length narrow) (ap finished_number (sym P.answer))

@@ -5,7 +5,7 @@ use mathlib.Core.Bool.{Bool}
 use mathlib.Core.List.{List, ◌++◌}
 use lib.ListN.{length, take}
 use lib.Seq.{take_at}
-use borrow.Author.Tests.{le_leb}
+use borrow.Author.Tests.{le-leb}
 use Rattle.words.proofs.Laws.{bytes_drop}
 use Rattle.words.proofs.PartLaws.{splice_front}
 use Rattle.layout.specs.Layout.{keys_in, arena_in}
@@ -34,7 +34,7 @@ text_stands {rule} {input} {before} P room =
     let text = text_of rule input in
     let front = ap (take (length text)) ((room_values P room).2 ∙ splice_front before text) ∙ take_at text _ (length text) refl in
     record {
-      text_stands = (P.answer ∙ rw (le_leb (length text) (length before) room), front);
+      text_stands = (P.answer ∙ rw (le-leb (length text) (length before) room), front);
       stands_refused = λ n e. refused_stops rule input n (sym front ∙ e);
       refused_stands = λ n s. front ∙ stops_refused rule input n s;
     }

@@ -3,7 +3,7 @@ use Prim.Native.Nat.{ℕ, suc, ◌+◌, ◌*◌, ◌<◌}
 use native.Mathlib.Omega.{arith}
 use mathlib.Core.Path.{◌≡◌, refl, ap, ◌∙◌}
 use mathlib.Core.List.{List, [], ◌∷◌, ◌++◌, append_assoc}
-use mathlib.Core.Bool.{true, false, not, or_true}
+use mathlib.Core.Bool.{true, false, not, or-true}
 use lib.ListN.{length, length-append}
 use lib.Dec.{eqb}
 use borrow.Author.Tests.{eq-eqb, lt-ltb}
@@ -54,7 +54,7 @@ module _ (test : DataLength) (zs : List ℕ) where
 
   sequence_ok : (prev p s t : ℕ) → sequence_at zs prev ≡ s → sequence_at zs p ≡ t → t < s → sequence_falls zs prev p ≡ true
   unfolding sequence_falls
-  sequence_ok prev p s t es et l = rw (es, et, lt-ltb t s l) (or_true (eqb prev p))
+  sequence_ok prev p s t es et l = rw (es, et, lt-ltb t s l) (or-true (eqb prev p))
 
   versions_accept : (rs : List Record) (xs ys : List ℕ) (prev p : ℕ) → zs ≡ xs ++ (versions_bytes rs ++ ys) → p ≡ length xs → Each (RecordRules test) rs → Falls rs
       → sequence_falls zs prev p ≡ true → versions_refusal zs test prev p (length rs) ≡ 0
@@ -115,7 +115,7 @@ module _ (test : DataLength) (zs : List ℕ) where
 
   rises_ok : (prev p : ℕ) → order_of (key_at zs prev) (key_at zs p) ≡ Less → key_rises zs prev p ≡ true
   unfolding key_rises
-  rises_ok prev p h = rw h (or_true (eqb prev p))
+  rises_ok prev p h = rw h (or-true (eqb prev p))
 
   -- the entries
   entries_accept : (slots : ℕ → ℕ) (t : List Entry) (xs ys : List ℕ) (prev p : ℕ) → zs ≡ xs ++ (table_bytes t ++ ys) → p ≡ length xs → Each (EntryRules test) t → Rises t

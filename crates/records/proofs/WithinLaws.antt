@@ -7,7 +7,7 @@ use mathlib.Core.Bool.{Bool, true, false, cond, ◌&&◌}
 use mathlib.Core.Option.{Option, none, some}
 use lib.Dec.{ltb, leb}
 use lib.ListN.{length}
-use borrow.Author.Tests.{le_leb}
+use borrow.Author.Tests.{le-leb}
 use Rattle.laws.proofs.RefusalLaws.{or_else_zero}
 use Rattle.words.proofs.Laws.{le_lt}
 use Rattle.words.specs.Field.{AllBytes}
@@ -37,7 +37,7 @@ use Rattle.records.proofs.ReadLaws.{versions_fall}
 -- none is the greatest number there is
 pub within_limit : (limit : Limit) (s : ℕ) → s < 2 ^ 64 → within limit s ≡ leb s (limit_of limit)
 unfolding within
-within_limit None s h = sym (le_leb s (2 ^ 64 - 1) (omega arith))
+within_limit None s h = sym (le-leb s (2 ^ 64 - 1) (omega arith))
 within_limit (UpTo l) s h = refl
 
 -- ---- the first is the greatest
@@ -60,7 +60,7 @@ better_first : (limit : Limit) (r : Record) (x : Option Record) → ((s : Record
     → better limit r x ≡ cond (within limit r.sequence) (some r) x
 unfolding better
 better_first limit r none f = refl
-better_first limit r (some s) f = let l = f s refl in rw (le_leb s.sequence r.sequence (omega arith)) (go (within limit r.sequence))
+better_first limit r (some s) f = let l = f s refl in rw (le-leb s.sequence r.sequence (omega arith)) (go (within limit r.sequence))
   where
     go : (b : Bool) → cond (b && true) (some r) (some s) ≡ cond b (some r) (some s)
     go true = refl

@@ -9,7 +9,7 @@ use native.Mathlib.Omega.{arith}
 use lib.Dec.{eqb}
 use lib.ListN.{get_or, drop}
 use lib.Pow.{pow_mono}
-use borrow.Author.Tests.{leb-true, le_leb, eqb-true}
+use borrow.Author.Tests.{leb-true, le-leb, eqb-true}
 use Rattle.laws.proofs.Cases.{by_test}
 use Rattle.laws.specs.Power.{PowerOfTwo}
 use Rattle.sizing.specs.Table.{leasts}
@@ -20,7 +20,7 @@ use Rattle.sizing.proofs.RowLaws.{walk, At, row}
 rule_mono : (k : ℕ) {m n : ℕ} → m ≤ n → rule k m ≡ true → rule k n ≡ true
 unfolding rule
 rule_mono k {m} {n} l t =
-    le_leb (291 ^ (2 * k + 1)) (n ^ 2 * 100 ^ (2 * k + 1))
+    le-leb (291 ^ (2 * k + 1)) (n ^ 2 * 100 ^ (2 * k + 1))
     (le_trans (leb-true (291 ^ (2 * k + 1)) (m ^ 2 * 100 ^ (2 * k + 1)) t) (mul-le-mul_right (100 ^ (2 * k + 1)) (pow-le-pow_left l 2)))
 
 greatest_le : (k m : ℕ) → exponent_up_to k m ≤ k

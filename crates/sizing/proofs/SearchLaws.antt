@@ -7,14 +7,14 @@ use native.Mathlib.Nat.{not-suc-le-zero, le_of_suc-le-suc}
 use native.Mathlib.Omega.{arith}
 use lib.Dec.{leb, ltb}
 use lib.ListN.{length, get_or}
-use borrow.Author.Tests.{leb-true, leb-false, le_leb, lt-leb, ltb-true}
+use borrow.Author.Tests.{leb-true, leb-false, le-leb, lt-leb, ltb-true}
 use Rattle.laws.proofs.Cases.{by_test}
 use Rattle.sizing.specs.Sizing.{up_to, rises_from, rises_strictly}
 
 -- the table's first number is at most n, or greater
 pub up_to_yes : (x : ℕ) (xs : List ℕ) (n : ℕ) → x ≤ n → up_to (x ∷ xs) n ≡ suc (up_to xs n)
 unfolding up_to
-up_to_yes x xs n h = ap (λ (b : Bool). cond b (suc (up_to xs n)) zero) (le_leb x n h)
+up_to_yes x xs n h = ap (λ (b : Bool). cond b (suc (up_to xs n)) zero) (le-leb x n h)
 
 pub up_to_no : (x : ℕ) (xs : List ℕ) (n : ℕ) → n < x → up_to (x ∷ xs) n ≡ zero
 unfolding up_to

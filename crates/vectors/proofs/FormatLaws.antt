@@ -1,5 +1,5 @@
 -- A field that stands in its bytes, and one that does not; after a case fewer are left. Assumes nothing.
-use Rattle.std.proofs.Common.{◌≡◌, ℕ, ◌+◌, ◌-◌, ◌<◌, ◌≤◌, Bool, true, false, cond, eqb, leb, List, length, get_or, refl, arith, le_leb}
+use Rattle.std.proofs.Common.{◌≡◌, ℕ, ◌+◌, ◌-◌, ◌<◌, ◌≤◌, Bool, true, false, cond, eqb, leb, List, length, get_or, refl, arith, le-leb}
 use borrow.Author.Tests.{lt-leb, eqb-false}
 use Rattle.words.specs.Field.{le}
 use Rattle.vectors.specs.Format.{field_of, next_of}
@@ -8,7 +8,7 @@ use Rattle.vectors.specs.declared.Next.TheVariants.{Case, End, Damaged}
 
 -- a field reads as itself where its bytes are all there, and 0 elsewhere
 pub field_in : (k : ℕ) (raw : List ℕ) (at : ℕ) → 0 < k → k ≤ length raw - at → le k raw at ≡ field_of k raw at
-field_in k raw at p h = let q : at + k ≤ length raw = omega arith in simp (le_leb _ _ q)
+field_in k raw at p h = let q : at + k ≤ length raw = omega arith in simp (le-leb _ _ q)
 
 pub field_out : (k : ℕ) (raw : List ℕ) (at : ℕ) → length raw - at < k → 0 ≡ field_of k raw at
 field_out k raw at h = let q : length raw < at + k = omega arith in simp (lt-leb _ _ q)

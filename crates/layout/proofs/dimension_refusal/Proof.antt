@@ -1,7 +1,7 @@
 -- `dimension_refusal` is 21 or 0, test by test. Assumes nothing.
 use native.Mathlib.Omega.{arith}
 use borrow.Author.Rules.{rules}
-use borrow.Author.Tests.{le_leb, lt-leb, eq-eqb, ne_eqb}
+use borrow.Author.Tests.{le-leb, lt-leb, eq-eqb, ne_eqb}
 use Rattle.mixing.proofs.SlotLaws.{few_buckets}
 use Rattle.layout.specs.Layout.{dimension_refusal}
 use Rattle.layout.proofs.dimension_refusal.Statement.{statement}
@@ -13,7 +13,7 @@ returns c = simp (eq-eqb _ _ c.if1.true)
 
 returns-2 : tie.Need-returns-2
 unfolding dimension_refusal
-returns-2 c = simp (ne_eqb _ _ c.before.if1.false, le_leb _ _ c.if2.true)
+returns-2 c = simp (ne_eqb _ _ c.before.if1.false, le-leb _ _ c.if2.true)
 
 returns-3 : tie.Need-returns-3
 unfolding dimension_refusal

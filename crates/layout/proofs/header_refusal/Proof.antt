@@ -1,6 +1,6 @@
 -- `header_refusal` is the first of 20 and 21. Assumes nothing.
 use mathlib.Core.Path.{sym, ◌∙◌}
-use borrow.Author.Tests.{le_leb, lt-leb}
+use borrow.Author.Tests.{le-leb, lt-leb}
 use Rattle.laws.proofs.RefusalLaws.{or_else_stop}
 use Rattle.layout.proofs.HeaderLaws.{magic_long, header_stop, header_on}
 use native.Mathlib.Omega.{arith}
@@ -24,7 +24,7 @@ returns-2 : tie.Need-returns-2
 returns-2 c = sym (header_on _ _ _ _ _ _ c.before.before.before.before.before.before.magic-refusal.ensures c.before.before.before.before.before.if1.false c.before.before.before.keys_in.ensures c.before.before.buckets-in.ensures c.before.before.before.before.arena-in.ensures c.before.dimension-refusal.ensures ∙ or_else_stop _ _ c.if2.true)
 
 returns-3 : tie.Need-returns-3
-returns-3 c = rw (header_on _ _ _ _ _ _ c.before.before.before.before.before.before.before.magic-refusal.ensures c.before.before.before.before.before.before.if1.false c.before.before.before.before.keys_in.ensures c.before.before.before.buckets-in.ensures c.before.before.before.before.before.arena-in.ensures c.before.before.dimension-refusal.ensures, c.before.if2.false, le_leb _ _ c.if3.true)
+returns-3 c = rw (header_on _ _ _ _ _ _ c.before.before.before.before.before.before.before.magic-refusal.ensures c.before.before.before.before.before.before.if1.false c.before.before.before.before.keys_in.ensures c.before.before.before.buckets-in.ensures c.before.before.before.before.before.arena-in.ensures c.before.before.dimension-refusal.ensures, c.before.if2.false, le-leb _ _ c.if3.true)
 
 returns-4 : tie.Need-returns-4
 returns-4 c = rw (header_on _ _ _ _ _ _ c.before.before.before.before.before.before.before.magic-refusal.ensures c.before.before.before.before.before.before.if1.false c.before.before.before.before.keys_in.ensures c.before.before.before.buckets-in.ensures c.before.before.before.before.before.arena-in.ensures c.before.before.dimension-refusal.ensures, c.before.if2.false, lt-leb _ _ c.if3.false)

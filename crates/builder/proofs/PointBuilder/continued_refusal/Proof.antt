@@ -1,7 +1,7 @@
 -- `PointBuilder::continued_refusal` answers the first cause that holds of a continued key. Assumes nothing.
 use native.Mathlib.Omega.{arith}
 use borrow.Author.Rules.{rules}
-use borrow.Author.Tests.{eq-eqb, ne_eqb, le_leb, lt-leb, lt-ltb, le-ltb}
+use borrow.Author.Tests.{eq-eqb, ne_eqb, le-leb, lt-leb, lt-ltb, le-ltb}
 use Rattle.builder.specs.State.{last_of}
 use Rattle.builder.specs.Add.{continued_causes}
 use Rattle.builder.proofs.StateLaws.{fits_known}
@@ -28,7 +28,7 @@ u64-at-requires c κs = let s = c.before.before.before.before.before.before.befo
 returns-3 : tie.Need-returns-3
 unfolding continued_causes last_of
 returns-3 c =
-    rw (ne_eqb _ _ c.before.before.before.before.before.if1.false, ← c.before.before.before.before.key-at.ensures, ← c.before.before.before.same.ensures, c.before.before.if2.false, ← c.before.u64-at.ensures, le_leb _ _ c.if3.true)
+    rw (ne_eqb _ _ c.before.before.before.before.before.if1.false, ← c.before.before.before.before.key-at.ensures, ← c.before.before.before.same.ensures, c.before.before.if2.false, ← c.before.u64-at.ensures, le-leb _ _ c.if3.true)
 
 add-u32-at : tie.Need-overflow-add-u32-at
 add-u32-at c = let s = c.before.before.before.before.before.before.before.before.before.args in let f = fits_known s.self s.buffer.now c.before.before.before.before.before.if1.false c.before.before.before.before.before.before.before.before.before.requires in omega arith
@@ -39,7 +39,7 @@ u32-at-requires c κs = let s = c.before.before.before.before.before.before.befo
 returns-4 : tie.Need-returns-4
 unfolding continued_causes last_of
 returns-4 c =
-    rw (ne_eqb _ _ c.before.before.before.before.before.before.before.if1.false, ← c.before.before.before.before.before.before.key-at.ensures, ← c.before.before.before.before.before.same.ensures, c.before.before.before.before.if2.false, ← c.before.before.before.u64-at.ensures, lt-leb _ _ c.before.before.if3.false, ← c.before.u32-at.ensures, le_leb _ _ c.if4.true)
+    rw (ne_eqb _ _ c.before.before.before.before.before.before.before.if1.false, ← c.before.before.before.before.before.before.key-at.ensures, ← c.before.before.before.before.before.same.ensures, c.before.before.before.before.if2.false, ← c.before.before.before.u64-at.ensures, lt-leb _ _ c.before.before.if3.false, ← c.before.u32-at.ensures, le-leb _ _ c.if4.true)
 
 sub-if5 : tie.Need-overflow-sub-if5
 sub-if5 c = let s = c.before.before.before.before.before.before.before.before.before.before.before.args in let f = fits_known s.self s.buffer.now c.before.before.before.before.before.before.before.if1.false c.before.before.before.before.before.before.before.before.before.before.before.requires in omega arith

@@ -1,7 +1,7 @@
 -- `PointBuilder::new_refusal` answers the first cause that holds of a new key. Assumes nothing.
 use native.Mathlib.Omega.{arith}
 use borrow.Author.Rules.{rules}
-use borrow.Author.Tests.{le_leb, lt-leb, lt-ltb, le-ltb}
+use borrow.Author.Tests.{le-leb, lt-leb, lt-ltb, le-ltb}
 use Rattle.builder.specs.Add.{new_causes}
 use Rattle.builder.proofs.StateLaws.{fits_inside}
 use Rattle.builder.proofs.PointBuilder.new_refusal.Statement.{statement}
@@ -16,7 +16,7 @@ returns c = rw (← c.before.rises.ensures, c.if1.true)
 
 returns-2 : tie.Need-returns-2
 unfolding new_causes
-returns-2 c = rw (← c.before.before.before.rises.ensures, c.before.before.if1.false, le_leb _ _ c.if2.true)
+returns-2 c = rw (← c.before.before.before.rises.ensures, c.before.before.if1.false, le-leb _ _ c.if2.true)
 
 sub-if3 : tie.Need-overflow-sub-if3
 sub-if3 c = let s = c.before.before.before.before.before.before.args in omega (arith, fits_inside s.self s.buffer.now c.before.before.before.before.before.before.requires.0)

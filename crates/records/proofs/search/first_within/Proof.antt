@@ -2,7 +2,7 @@
 use Prim.Native.Nat.{ℕ}
 use mathlib.Core.Path.{◌≡◌, refl, sym, ap, ◌∙◌}
 use native.Mathlib.Omega.{arith}
-use borrow.Author.Tests.{le_leb, lt-leb}
+use borrow.Author.Tests.{le-leb, lt-leb}
 use Rattle.records.specs.declared.Limit.TheVariants.{UpTo}
 use Rattle.records.specs.Model.{within}
 use Rattle.records.specs.Within.{first_within}
@@ -34,7 +34,7 @@ returns : tie.Need-returns invariant-loop decreases-loop
 unfolding within
 returns c =
     let l = c.before.before.before.before.before.before.before.loop in
-    search_found _ _ l.at l.left (omega arith) _ c.before.before.before.before.before.version-at.ensures _ c.before.before.before.read.given.1 (le_leb _ _ c.if1.true)
+    search_found _ _ l.at l.left (omega arith) _ c.before.before.before.before.before.version-at.ensures _ c.before.before.before.read.given.1 (le-leb _ _ c.if1.true)
     ∙ l.invariant
     ∙ whole c.before.before.before.before.before.before.before.before
 

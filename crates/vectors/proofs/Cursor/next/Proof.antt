@@ -1,5 +1,5 @@
 -- `Cursor::next` answers the case at the cursor, or the end, by the tests that led to each answer. Assumes nothing.
-use Rattle.std.proofs.Common.{◌+◌, ◌<◌, ◌≤◌, length, arith, rules, eq-eqb, ne_eqb, le_leb}
+use Rattle.std.proofs.Common.{◌+◌, ◌<◌, ◌≤◌, length, arith, rules, eq-eqb, ne_eqb, le-leb}
 use Rattle.words.specs.Field.{le}
 use borrow.Author.Tests.{lt-leb}
 use Rattle.vectors.proofs.Cursor.next.Statement.{statement}
@@ -22,14 +22,14 @@ returns-4 c =
     let s = c.before.before.before.before.before.before.before.args in
     let h : s.self.at + 5 ≤ length s.file.now = omega arith in
     let k : length s.file.now < s.self.at + 5 + le 4 s.file.now (s.self.at + 1) = omega arith in
-    simp (ne_eqb _ _ c.before.before.before.before.before.if1.false, le_leb _ _ h, lt-leb _ _ k)
+    simp (ne_eqb _ _ c.before.before.before.before.before.if1.false, le-leb _ _ h, lt-leb _ _ k)
 
 returns-5 : tie.Need-returns-5
 returns-5 c =
     let s = c.before.before.before.before.before.before.before.before.args in
     let h : s.self.at + 5 ≤ length s.file.now = omega arith in
     let k : s.self.at + 5 + le 4 s.file.now (s.self.at + 1) ≤ length s.file.now = omega arith in
-    rw c.before.before.before.u32-at.ensures (simp (ne_eqb _ _ c.before.before.before.before.before.before.if1.false, le_leb _ _ h, le_leb _ _ k))
+    rw c.before.before.before.u32-at.ensures (simp (ne_eqb _ _ c.before.before.before.before.before.before.if1.false, le-leb _ _ h, le-leb _ _ k))
 
 pub next_spec : {M : Type 1} → statement M
 next_spec =
