@@ -37,6 +37,7 @@ none_only (numbered_more {c} {cs} p r) e = go c.holds refl (none_only r)
 
 -- every number of such a row is above 0
 pub first_positive : {n : ℕ} {cs : List Cause} → Numbered cs → First n cs → 0 < n
+first_positive {n = n} numbered_none x = elim x [ ]
 first_positive (numbered_more p ns) (here h e) = omega arith
 first_positive (numbered_more p ns) (later h f) = first_positive ns f
 
