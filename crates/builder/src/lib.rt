@@ -1,4 +1,6 @@
 // The point builder: records are added to an arena one by one, and the last one's offset is set.
+#![tactic(auto)]
+
 ghost use Rattle.std.specs.Prelude.{◌≡◌, true, ◌+◌, ◌≤◌, ◌<◌, length};
 ghost use Rattle.laws.specs.Refusals.{first_of};
 ghost use Rattle.numbers.specs.Limits.{most_key_bytes, most_keys, most_versions};

@@ -1,4 +1,6 @@
 // Replays the vectors of the builder: ops 0f buffer, 10 add, 11 set offset, 12 look, 13 poke.
+#![tactic(auto)]
+
 use builder::{Added, OffsetSet, PointBuilder};
 use records::{Kind, KindRead};
 use vectors::Count;

@@ -1,4 +1,6 @@
 // Construct of the point index: keys placed by bucket and pilot, over eight seeds.
+#![tactic(auto)]
+
 pub mod attempt;
 pub mod group;
 pub mod keys;

@@ -1,4 +1,6 @@
 // The filter's public calls: reading its bytes, asking it, writing it, building it.
+#![tactic(auto)]
+
 ghost use Rattle.std.specs.Prelude.{true, ◌≡◌, ◌≤◌, length};
 ghost use Rattle.words.specs.Field.{splice};
 ghost use Rattle.filter.specs.Reading.{read_of, front_of, acceptable};

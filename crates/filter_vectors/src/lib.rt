@@ -1,4 +1,6 @@
 // Replays the vectors of filter building: ops 30 build, 31 build of made hashes. Space is lent dirty, and what is left is tested.
+#![tactic(auto)]
+
 ghost use Rattle.std.specs.Prelude.{◌≡◌, length};
 
 use filter::Built;

@@ -1,4 +1,6 @@
 // Finish: the body of an index from the bytes of its arena.
+#![tactic(auto)]
+
 mod body;
 mod check;
 

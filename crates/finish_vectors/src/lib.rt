@@ -1,4 +1,6 @@
 // Replays the vectors of finish: ops 18 finish, 19 finish of an arena that is made. Space is lent dirty, and what is left is tested.
+#![tactic(auto)]
+
 ghost use Rattle.std.specs.Prelude.{◌≡◌, ◌+◌, ◌*◌, ◌≤◌, length};
 
 use finish::Finished;

@@ -1,4 +1,6 @@
 // A filter's sizes, the four cells of a hash, and the header in front of the cells.
+#![tactic(auto)]
+
 ghost use Rattle.std.specs.Prelude.{◌≡◌, ◌^◌, ◌<◌, length};
 ghost use Rattle.fuse.specs.Positions.{Usable, FitsCells, cells_in, cell_of, positions_of};
 ghost use Rattle.fuse.specs.Asking.{graph_hash, xor_at, contains_of};

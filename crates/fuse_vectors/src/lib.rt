@@ -1,4 +1,6 @@
 // Replays the vectors of the filter's reading side: ops 04 positions, 05 sizing, 32 filter, 33 read and ask.
+#![tactic(auto)]
+
 ghost use Rattle.std.specs.Prelude.{◌≡◌, length};
 
 use filter::{Asked, SstFilter};

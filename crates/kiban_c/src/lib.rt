@@ -1,4 +1,6 @@
 // The calls that a Rust or C host links: numbers and slices alone, a module for each crate below whose calls it passes on.
+#![tactic(auto)]
+
 pub mod builder_calls;
 pub mod filter_calls;
 pub mod finish_calls;

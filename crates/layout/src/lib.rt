@@ -1,4 +1,6 @@
 // The layout of a body: its header's fields and rules, and where its pilots, slots and arena stand.
+#![tactic(auto)]
+
 ghost use Rattle.std.specs.Prelude.{◌≡◌, ◌^◌, ◌<◌, ◌≤◌, length};
 ghost use Rattle.words.specs.Field.{splice};
 ghost use Rattle.layout.specs.Layout.{magic_refusal, slot_at, arena_start, header_bytes, dimension_refusal, header_refusal, seed_in, keys_in, buckets_in, arena_in};

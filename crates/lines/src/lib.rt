@@ -1,4 +1,6 @@
 // The listing: what the desk prints and compares by hand, as a function from input bytes to output bytes.
+#![tactic(auto)]
+
 ghost use Rattle.std.specs.Prelude.{◌≡◌, length};
 ghost use Rattle.text.specs.Inner.Written.{Ends, WrittenAt};
 ghost use Rattle.records.specs.Places.{entry_at};

@@ -1,6 +1,8 @@
 // Prints the listing of standard input: u64 limit, u64 data length, body. What the text is, the crate `lines` says.
 // One byte past the longest input is enough for it to be refused, so no more is read. Where a read fails nothing is listed, and where
 // standard output takes no more the rest is lost: a line on standard error says so. Otherwise nothing goes there.
+#![tactic(auto)]
+
 ghost use Rattle.std.specs.Prelude.{length, ◌≡◌};
 ghost use Rattle.io.specs.Counts.{IsPrefixLen};
 

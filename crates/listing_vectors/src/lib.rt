@@ -1,4 +1,6 @@
 // Replays the vectors of the listing: ops 20 body, 23 listing, 24 listing of raw input; and the longest input, and one byte more.
+#![tactic(auto)]
+
 ghost use Rattle.std.specs.Prelude.{◌≤◌, length};
 
 use lines::Listed;

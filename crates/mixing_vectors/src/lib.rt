@@ -1,4 +1,6 @@
 // Replays the vectors of mixing: ops 01 mix, 02 hash and fingerprint, 03 bucket and position.
+#![tactic(auto)]
+
 use vectors::Count;
 
 // The counts of each op.

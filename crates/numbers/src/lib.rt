@@ -1,4 +1,5 @@
 // The numbers that calls refuse with, each named once for its cause (document 01, "Calls and the numbers they refuse with").
+#![tactic(auto)]
 
 #[derive(Drop)]
 pub struct Refusal {}

@@ -1,4 +1,6 @@
 // One attempt to build a filter, over lent workspace: wide [xors c | hashes peeled n], narrow [degrees c | queue c | cells peeled n].
+#![tactic(auto)]
+
 ghost use Rattle.std.specs.Prelude.{◌≡◌, ℕ, ◌+◌, ◌^◌, ◌<◌, ◌≤◌, List, [], length, ◌==◌, bit_xor, slice_index};
 ghost use Rattle.laws.specs.Count.{keep, rising};
 ghost use Rattle.fuse.specs.Positions.{positions_of};

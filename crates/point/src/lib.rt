@@ -1,4 +1,6 @@
 // The reading side of the point index: validate, get, and the value of what get finds.
+#![tactic(auto)]
+
 ghost use Rattle.std.specs.Prelude.{◌≡◌, false, ◌+◌, ◌≤◌, length};
 ghost use Rattle.layout.specs.Layout.{header_refusal, keys_in, buckets_in, arena_in, pilot_of, direct_past, slot_of, slot_place};
 ghost use Rattle.point.specs.Validate.{pilots_refusal, slot_test, slot_refusal, arena_refusal, validation_refusal, validate_of, Checked};

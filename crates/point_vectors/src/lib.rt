@@ -1,4 +1,6 @@
 // Replays the vectors of reading: ops 20 body, 21 validate, 22 get with its value.
+#![tactic(auto)]
+
 ghost use Rattle.std.specs.Prelude.{◌≡◌, ◌+◌, ◌≤◌, length};
 
 use point::{Answer, Validated};

@@ -1,1 +1,2 @@
 // What is promised, as theorems over the crates below: see specs/.
+#![tactic(auto)]

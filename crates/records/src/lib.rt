@@ -1,4 +1,6 @@
 // The records of an arena: kinds, records, limits, and their model in specs/.
+#![tactic(auto)]
+
 ghost use Rattle.std.specs.Prelude.{◌≡◌};
 ghost use Rattle.records.specs.Model.{kind_byte, kind_read, limit_of};
 

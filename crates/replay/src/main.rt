@@ -1,4 +1,6 @@
 // Replays the oracle's vector file: each case goes to the group of calls that has its op. The format is in compare/VECTORS.md.
+#![tactic(auto)]
+
 use vectors::{Count, Cursor, File, Next};
 
 // The counts of each group, and of what none of them has or is no whole case.

@@ -1,4 +1,6 @@
 // The sizes of a filter for n hashes.
+#![tactic(auto)]
+
 ghost use Rattle.std.specs.Prelude.{true, ◌≡◌, ◌-◌, ◌≤◌};
 ghost use Rattle.sizing.specs.Sizing.{up_to, rises_strictly, segment_of, segments_of, plan_of};
 

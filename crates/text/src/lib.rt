@@ -1,5 +1,7 @@
 // Text written into a lent buffer, a piece after the other. A piece that passes the buffer's end is cut off there, so the same
 // writers, lent an empty buffer, measure a text.
+#![tactic(auto)]
+
 ghost use Rattle.std.specs.Prelude.{◌≡◌, [], ◌∷◌, ◌<◌, set};
 ghost use Rattle.text.specs.Text.{decimal, hex_digit, hex_of, key_text, field, named};
 ghost use Rattle.text.specs.Inner.Written.{DigitsLaid, Ends, WrittenAt};

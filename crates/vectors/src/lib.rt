@@ -1,5 +1,7 @@
 // Stored vectors: the cases of a file by a cursor, the fields of a case, and the counts that a replay prints.
 // A field that lies outside its bytes reads 0 or empty: a replay tests that its fields end where the payload ends.
+#![tactic(auto)]
+
 ghost use Rattle.std.specs.Prelude.{◌≡◌, ◌-◌, length};
 ghost use Rattle.vectors.specs.Format.{field_of, end_of, bytes_end, field_bytes, file_of, next_of, counted_of};
 
