@@ -5,6 +5,8 @@
 ghost use Rattle.std.specs.Prelude.{◌≡◌, ◌-◌, length};
 ghost use Rattle.vectors.specs.Format.{field_of, end_of, bytes_end, field_bytes, file_of, next_of, counted_of};
 
+use std::io;
+use std::io::Print;
 use words::field;
 
 pub mod patch;
@@ -204,19 +206,14 @@ pub fn buffer() -> [u8; 327680]
 }
 
 // Prints one line: `NAME N cases, M differ`.
-pub fn report(name: &[u8], count: Count) {
-    io::write_all(1, name);
-    io::write_all(1, b" ");
-    io::print_decimal(1, count.cases);
-    io::write_all(1, b" cases, ");
-    io::print_decimal(1, count.differ);
-    io::write_all(1, b" differ\n");
+pub fn report<P: Print>(to: &P, name: &[u8], count: Count) -> io::Result<()> {
+    let Count { cases, differ } = count;
+    Print::write_all(to, name)?;
+    println!(to; " {cases} cases, {differ} differ")
 }
 
 // Prints one line: a name and a number.
-pub fn note(name: &[u8], number: u64) {
-    io::write_all(1, name);
-    io::write_all(1, b" ");
-    io::print_decimal(1, number);
-    io::write_all(1, b"\n");
+pub fn note<P: Print>(to: &P, name: &[u8], number: u64) -> io::Result<()> {
+    Print::write_all(to, name)?;
+    println!(to; " {number}")
 }
