@@ -3,6 +3,8 @@
 
 use builder::{Added, OffsetSet, PointBuilder};
 use records::{Kind, KindRead};
+use std::io;
+use std::io::Print;
 use vectors::Count;
 
 // The builder buffer's length, and the counts of each op.
@@ -171,11 +173,11 @@ impl Tally {
     }
 
     // Prints the counts.
-    pub fn report(self) {
-        vectors::report(b"buffer", self.buffer);
-        vectors::report(b"add", self.add);
-        vectors::report(b"set offset", self.set);
-        vectors::report(b"look", self.look);
-        vectors::report(b"poke", self.poke);
+    pub fn report<P: Print>(self, to: &P) -> io::Result<()> {
+        vectors::report(to, b"buffer", self.buffer)?;
+        vectors::report(to, b"add", self.add)?;
+        vectors::report(to, b"set offset", self.set)?;
+        vectors::report(to, b"look", self.look)?;
+        vectors::report(to, b"poke", self.poke)
     }
 }

@@ -4,6 +4,8 @@
 ghost use Rattle.std.specs.Prelude.{◌≡◌, length};
 
 use filter::Built;
+use std::io;
+use std::io::Print;
 use vectors::{Count, space};
 
 // The counts of each op.
@@ -224,8 +226,8 @@ impl Tally {
     }
 
     // Prints the counts.
-    pub fn report(self) {
-        vectors::report(b"filter build", self.built);
-        vectors::report(b"filter build, made", self.made);
+    pub fn report<P: Print>(self, to: &P) -> io::Result<()> {
+        vectors::report(to, b"filter build", self.built)?;
+        vectors::report(to, b"filter build, made", self.made)
     }
 }

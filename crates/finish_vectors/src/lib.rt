@@ -5,6 +5,8 @@ ghost use Rattle.std.specs.Prelude.{◌≡◌, ◌+◌, ◌*◌, ◌≤◌, leng
 
 use finish::Finished;
 use numbers::Refusal;
+use std::io;
+use std::io::Print;
 use vectors::{Count, space};
 use words::field;
 
@@ -288,9 +290,9 @@ impl Tally {
     }
 
     // Prints the counts.
-    pub fn report(self) {
-        vectors::report(b"finish", self.finish);
-        vectors::report(b"finish, made", self.made);
-        vectors::note(b"finish, made, left to compare", self.larger);
+    pub fn report<P: Print>(self, to: &P) -> io::Result<()> {
+        vectors::report(to, b"finish", self.finish)?;
+        vectors::report(to, b"finish, made", self.made)?;
+        vectors::note(to, b"finish, made, left to compare", self.larger)
     }
 }

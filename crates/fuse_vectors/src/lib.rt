@@ -7,6 +7,8 @@ use filter::{Asked, SstFilter};
 use fuse::{Sizes, header};
 use numbers::Refusal;
 use sizing::Plan;
+use std::io;
+use std::io::Print;
 use vectors::Count;
 
 // The counts of each op; and where the base filter stands in the file, a `bytes` field.
@@ -160,9 +162,9 @@ impl Tally {
     }
 
     // Prints the counts.
-    pub fn report(self) {
-        vectors::report(b"filter positions", self.positions);
-        vectors::report(b"sizing", self.sizing);
-        vectors::report(b"read and ask", self.asked);
+    pub fn report<P: Print>(self, to: &P) -> io::Result<()> {
+        vectors::report(to, b"filter positions", self.positions)?;
+        vectors::report(to, b"sizing", self.sizing)?;
+        vectors::report(to, b"read and ask", self.asked)
     }
 }

@@ -20,8 +20,7 @@ fn state_of(state: &[u64]) -> PointBuilder
 }
 
 // Adds a record: 0, with the next state and the place of its offset, or the refusal.
-#[unsafe(no_mangle)]
-pub extern "C" fn kiban_add(
+pub fn kiban_add(
     buffer: &mut [u8],
     state: &mut [u64],
     key: &[u8],
@@ -55,8 +54,7 @@ pub extern "C" fn kiban_add(
 }
 
 // Sets the last record's offset: 0, or the refusal.
-#[unsafe(no_mangle)]
-pub extern "C" fn kiban_set_offset(buffer: &mut [u8], state: &[u64], place: u64, offset: u64) -> u64
+pub fn kiban_set_offset(buffer: &mut [u8], state: &[u64], place: u64, offset: u64) -> u64
     ensures { SetOffsetCall buffer.old state.now place offset result buffer.new }
 {
     if state.len() < 3 {

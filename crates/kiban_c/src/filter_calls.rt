@@ -12,8 +12,7 @@ use numbers::Refusal;
 use words::part;
 
 // Builds a filter of the hashes: 0, with the bytes written in front of `answer`, or the refusal; 6 first for an answer under one word.
-#[unsafe(no_mangle)]
-pub extern "C" fn kiban_filter_build(
+pub fn kiban_filter_build(
     hashes: &mut [u64],
     wide: &mut [u64],
     narrow: &mut [u32],
@@ -39,8 +38,7 @@ pub extern "C" fn kiban_filter_build(
 }
 
 // Reads a filter: 0, with its six words in front of `answer`, or 15; 6 first for an answer under six words.
-#[unsafe(no_mangle)]
-pub extern "C" fn kiban_filter_read(bytes: &[u8], answer: &mut [u64]) -> u64
+pub fn kiban_filter_read(bytes: &[u8], answer: &mut [u64]) -> u64
     ensures { FilterReadCall bytes.now answer.old result answer.new }
 {
     if answer.len() < 6 {
@@ -73,8 +71,7 @@ fn number(answer: Asked) -> u8
 }
 
 // Asks a filter for a hash: 0 absent, 1 maybe, 15.
-#[unsafe(no_mangle)]
-pub extern "C" fn kiban_filter_ask(bytes: &[u8], hash: u64) -> u64
+pub fn kiban_filter_ask(bytes: &[u8], hash: u64) -> u64
     ensures { result ≡ filter_ask_of bytes.now hash }
 {
     number(filter::ask(bytes, hash)) as u64
@@ -93,8 +90,7 @@ fn ask_each(s: Sizes, cells: &[u8], hashes: &[u64], answers: &mut [u8])
 }
 
 // Asks a filter, whose header is read once, for all the hashes: 0, with their answers in front, or 15; 6 first for fewer answers than hashes.
-#[unsafe(no_mangle)]
-pub extern "C" fn kiban_filter_ask_all(bytes: &[u8], hashes: &[u64], answers: &mut [u8]) -> u64
+pub fn kiban_filter_ask_all(bytes: &[u8], hashes: &[u64], answers: &mut [u8]) -> u64
     ensures { FilterAskAllCall bytes.now hashes.now answers.old result answers.new }
 {
     if answers.len() < hashes.len() {

@@ -5,8 +5,7 @@ use finish::Finished;
 use numbers::Refusal;
 
 // Finishes an arena: 0, with the body's length in front of `answer`, or the refusal; 6 first for an answer under one word.
-#[unsafe(no_mangle)]
-pub extern "C" fn kiban_finish(
+pub fn kiban_finish(
     arena: &[u8],
     out: &mut [u8],
     wide: &mut [u64],

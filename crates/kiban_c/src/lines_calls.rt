@@ -5,8 +5,7 @@ use lines::Listed;
 use numbers::Refusal;
 
 // Lists an input: 0 (also where the text is `refused R`), with the text's length in front of `answer`, or 6; 6 first for an answer under one word.
-#[unsafe(no_mangle)]
-pub extern "C" fn kiban_listing(input: &[u8], out: &mut [u8], answer: &mut [u64]) -> u64
+pub fn kiban_listing(input: &[u8], out: &mut [u8], answer: &mut [u64]) -> u64
     ensures { ListingCall input.now out.old answer.old result out.new answer.new }
 {
     if answer.len() < 1 {

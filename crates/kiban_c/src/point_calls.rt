@@ -9,8 +9,7 @@ use point::{Answer, Validated};
 use records::{Kind, Limit};
 
 // Validates a body for data of a length: 0, or the refusal.
-#[unsafe(no_mangle)]
-pub extern "C" fn kiban_validate(body: &[u8], data_length: u64) -> u64
+pub fn kiban_validate(body: &[u8], data_length: u64) -> u64
     ensures { result ≡ validate_call_of body.now data_length }
 {
     match point::validate(body, data_length) {
@@ -38,8 +37,7 @@ fn kind_number(kind: Kind) -> u64
 
 // The key's record within the limit: 0 found, with its four words in front of `answer`, 1 nothing, or the refusal; 6 first for an answer under
 // four words.
-#[unsafe(no_mangle)]
-pub extern "C" fn kiban_get(
+pub fn kiban_get(
     body: &[u8],
     data: &[u8],
     key: &[u8],

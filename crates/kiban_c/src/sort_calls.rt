@@ -2,8 +2,7 @@
 ghost use Rattle.kiban_c.specs.SortCalls.{SortCall};
 
 // Sorts the hashes; 0.
-#[unsafe(no_mangle)]
-pub extern "C" fn kiban_sort(hashes: &mut [u64]) -> u64
+pub fn kiban_sort(hashes: &mut [u64]) -> u64
     ensures { SortCall hashes.old result hashes.new }
 {
     sort::sort(hashes);

@@ -6,8 +6,9 @@
 ghost use Rattle.std.specs.Prelude.{length, ◌≡◌};
 ghost use Rattle.io.specs.Counts.{IsPrefixLen};
 
-use libc::{STDERR_FILENO, STDIN_FILENO, STDOUT_FILENO};
 use lines::Listed;
+use std::io;
+use std::io::{Eprint, Print, Read, Stdin};
 
 // What was read: how many bytes, and whether a read failed before the input's end.
 #[derive(Drop)]
@@ -30,17 +31,18 @@ fn text_buffer() -> [u8; 131072]
     [0; 131072]
 }
 
-// Reads standard input until it ends, the buffer is full or a read fails. (io::read_full does not tell the end from a failure.)
-fn read_input(buf: &mut [u8]) -> Input
+// Reads standard input until it ends, the buffer is full or a read fails.
+fn read_input(from: &mut Stdin, buf: &mut [u8]) -> Input
     ensures { IsPrefixLen result.size buf.new }
 {
     let mut size = 0;
     while size < buf.len() {
-        let got = libc::read(STDIN_FILENO, &mut buf[size..]);
-        let more = io::count(got, &buf[size..]);
+        let got = from.read(&mut buf[size..]);
+        let Ok(more) = got else {
+            return Input { size, failed: true };
+        };
         if more == 0 {
-            let failed = got < 0;
-            return Input { size, failed };
+            break;
         }
         size += more;
     }
@@ -51,32 +53,28 @@ fn read_input(buf: &mut [u8]) -> Input
 }
 
 // Lists an input and prints the text. A buffer that is too short for it (there is none here) prints nothing.
-fn print(input: &[u8], out: &mut [u8]) {
+fn print<R: Runtime>(rt: &R, input: &[u8], out: &mut [u8]) -> io::Result<()> {
     let answer = lines::listing(input, out);
     match answer {
         Listed::Text(size) => {
-            if !io::write_all(STDOUT_FILENO, &out[..size]) {
-                io::write_all(
-                    STDERR_FILENO,
-                    b"listing: standard output took no more: the text is cut\n",
-                );
+            if Print::write_all(rt, &out[..size]).is_err() {
+                return eprintln!(rt; "listing: standard output took no more: the text is cut");
             }
+            Ok(())
         }
-        Listed::Refused(_) => {}
+        Listed::Refused(_) => Ok(()),
     }
 }
 
-fn main() {
+fn main(rt: HostRuntime) -> io::Result<()> {
     let mut buf = input_buffer();
-    let input = read_input(&mut buf);
+    let input = read_input(&mut rt.stdin(), &mut buf);
     let size = input.size;
     if input.failed {
-        io::write_all(
-            STDERR_FILENO,
-            b"listing: standard input could not be read to its end: nothing is listed\n",
+        return eprintln!(rt;
+            "listing: standard input could not be read to its end: nothing is listed"
         );
-        return;
     }
     let mut out = text_buffer();
-    print(&buf[..size], &mut out);
+    print(&rt, &buf[..size], &mut out)
 }

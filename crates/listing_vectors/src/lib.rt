@@ -4,6 +4,8 @@
 ghost use Rattle.std.specs.Prelude.{◌≤◌, length};
 
 use lines::Listed;
+use std::io;
+use std::io::Print;
 use vectors::Count;
 use words::{field, part};
 
@@ -96,9 +98,9 @@ impl Tally {
     }
 
     // Prints the counts.
-    pub fn report(self) {
-        vectors::report(b"listing", self.listing);
-        vectors::report(b"listing, raw", self.raw);
-        vectors::report(b"listing, edges", edges());
+    pub fn report<P: Print>(self, to: &P) -> io::Result<()> {
+        vectors::report(to, b"listing", self.listing)?;
+        vectors::report(to, b"listing, raw", self.raw)?;
+        vectors::report(to, b"listing, edges", edges())
     }
 }

@@ -1,6 +1,8 @@
 // Replays the vectors of mixing: ops 01 mix, 02 hash and fingerprint, 03 bucket and position.
 #![tactic(auto)]
 
+use std::io;
+use std::io::Print;
 use vectors::Count;
 
 // The counts of each op.
@@ -70,9 +72,9 @@ impl Tally {
     }
 
     // Prints the counts.
-    pub fn report(self) {
-        vectors::report(b"mix", self.mix);
-        vectors::report(b"hash", self.hash);
-        vectors::report(b"places", self.places);
+    pub fn report<P: Print>(self, to: &P) -> io::Result<()> {
+        vectors::report(to, b"mix", self.mix)?;
+        vectors::report(to, b"hash", self.hash)?;
+        vectors::report(to, b"places", self.places)
     }
 }

@@ -5,6 +5,8 @@ ghost use Rattle.std.specs.Prelude.{◌≡◌, ◌+◌, ◌≤◌, length};
 
 use point::{Answer, Validated};
 use records::{Limit, Record};
+use std::io;
+use std::io::Print;
 use vectors::Count;
 
 // The counts of each op; and where the base body stands in the file, a `bytes` field.
@@ -173,8 +175,8 @@ impl Tally {
     }
 
     // Prints the counts.
-    pub fn report(self) {
-        vectors::report(b"validate", self.validate);
-        vectors::report(b"get", self.get);
+    pub fn report<P: Print>(self, to: &P) -> io::Result<()> {
+        vectors::report(to, b"validate", self.validate)?;
+        vectors::report(to, b"get", self.get)
     }
 }

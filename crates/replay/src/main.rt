@@ -1,6 +1,11 @@
 // Replays the oracle's vector file: each case goes to the group of calls that has its op. The format is in compare/VECTORS.md.
 #![tactic(auto)]
 
+ghost use Rattle.std.specs.Prelude.{IfOk};
+ghost use Rattle.io.specs.Counts.{IsPrefixLen};
+
+use std::io;
+use std::io::{Print, Read, Stdin};
 use vectors::{Count, Cursor, File, Next};
 
 // The counts of each group, and of what none of them has or is no whole case.
@@ -73,15 +78,15 @@ impl Groups {
     }
 
     // Prints the counts.
-    fn report(self) {
-        self.mixing.report();
-        self.builder.report();
-        self.finish.report();
-        self.point.report();
-        self.listing.report();
-        self.fuse.report();
-        self.filter.report();
-        vectors::report(b"other", self.other);
+    fn report<P: Print>(self, to: &P) -> io::Result<()> {
+        self.mixing.report(to)?;
+        self.builder.report(to)?;
+        self.finish.report(to)?;
+        self.point.report(to)?;
+        self.listing.report(to)?;
+        self.fuse.report(to)?;
+        self.filter.report(to)?;
+        vectors::report(to, b"other", self.other)
     }
 }
 
@@ -108,10 +113,26 @@ fn replay(file: &[u8], room: &mut [u8]) -> Groups {
     }
 }
 
-fn main() {
+// Reads standard input until it ends or the buffer is full.
+fn read_file(from: &mut Stdin, buf: &mut [u8]) -> io::Result<usize>
+    ensures { IfOk result (λ size. IsPrefixLen size buf.new) }
+{
+    let mut size = 0;
+    while size < buf.len() {
+        let more = from.read(&mut buf[size..])?;
+        if more == 0 {
+            break;
+        }
+        size += more;
+    }
+    Ok(size)
+}
+
+fn main(rt: HostRuntime) -> io::Result<()> {
     let mut buffer = vectors::buffer();
     let mut room = vectors::space::room(0);
-    let n = io::read_full(0, &mut buffer);
-    let groups = replay(&buffer[..n], &mut room);
-    groups.report();
+    let mut from = rt.stdin();
+    let size = read_file(&mut from, &mut buffer)?;
+    let groups = replay(&buffer[..size], &mut room);
+    groups.report(&rt.stdout())
 }
