@@ -43,12 +43,14 @@ records_behind e (f ∷ es) (rises_more b g) = records_above e.key f es b g
 
 -- where keys rise, each is below those behind it
 pub rises_below : (e : Entry) (es : List Entry) (f : Entry) → Rises (e ∷ es) → Memᴰ f es → order_of e.key f.key ≡ Less
+rises_below e [] f g m = elim m [ ]
 rises_below e (x ∷ es) f (rises_more b g) (Memᴰ.head q) = ap (λ (y : Entry). order_of e.key y.key) q ∙ b
 rises_below e (x ∷ es) f (rises_more b g) (Memᴰ.tail m) = order_trans e.key x.key f.key b (rises_below x es f g m)
 
 -- and the records of an entry's key are its versions
 pub own_records : (t : List Entry) (e : Entry) → Rises t → Memᴰ e t → records_of t e.key ≡ e.versions
 unfolding records_of
+own_records [] e g m = elim m [ ]
 own_records (x ∷ xs) e g (Memᴰ.head q) = rw (q, same_self x.key, records_behind x xs g) (append-nil x.versions)
 own_records (x ∷ xs) e g (Memᴰ.tail m) = rw (order_apart x.key e.key (rises_below x xs e g m)).0 (own_records xs e (rises_rest x xs g) m)
 

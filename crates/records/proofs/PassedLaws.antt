@@ -182,5 +182,5 @@ module _ (slots : ℕ → ℕ) (bytes : List ℕ) (test : DataLength) where
       rw (← s) (refl, e)
   passed_whole zero (passed_more t r) h e = absurd (not-suc-le-zero h)
   passed_whole {prev} {p} (suc k) (passed_more t r) h e =
-      let w = passed_whole k r (omega arith) e in
+      let w = passed_whole {prev = p} {p = next_entry bytes p} k r (omega arith) e in
       rw (entry_passes slots bytes test prev p t.key t.slot t.versions) (ap suc w.0, w.1)

@@ -10,7 +10,7 @@ pub mod search;
 pub mod walk;
 
 // What a record says of its key: it holds a value, or it was withdrawn.
-#[derive(Drop)]
+#[derive(Clone, Copy)]
 pub enum Kind {
     Put,
     Tombstone,
@@ -53,7 +53,7 @@ impl Kind {
 }
 
 // One version of a key: where its value lies in the data.
-#[derive(Drop)]
+#[derive(Clone, Copy)]
 pub struct Record {
     pub kind: Kind,
     pub sequence: u64,
@@ -86,7 +86,7 @@ pub enum VersionRead {
 }
 
 // How new a record may be: any, or up to a sequence.
-#[derive(Drop)]
+#[derive(Clone, Copy)]
 pub enum Limit {
     None,
     UpTo(u64),
@@ -108,7 +108,7 @@ impl Limit {
 }
 
 // The length of the data that offsets point into, where it is tested.
-#[derive(Drop)]
+#[derive(Clone, Copy)]
 pub enum DataLength {
     Untested,
     Of(u64),

@@ -1,0 +1,10 @@
+-- `sequence_falls` is `sequence_falls`. Assumes nothing.
+use mathlib.Core.Path.{sym, ◌∙◌}
+use Rattle.records.proofs.RuleLaws.{sequence_first, sequence_next}
+use Rattle.records.proofs.rules.sequence_falls.Goals as goal
+
+pub returns-then-prev-p : goal.returns-then-prev-p
+returns-then-prev-p c = sym (sequence_first _ _ _ c.if-prev-p.true)
+
+pub returns : goal.returns
+returns c = sym (sequence_next _ _ _ c.if-prev-p.false ∙ cc (c.u64_at-2.ensures, c.u64_at.ensures))
