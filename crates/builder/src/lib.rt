@@ -18,7 +18,7 @@ use records::rules::full_tombstone;
 use records::{Arena, Kind, Record};
 
 // The state of a builder: the arena's used bytes, its keys, and where the last key's entry starts.
-#[derive(Drop)]
+#[derive(Clone, Copy)]
 pub struct PointBuilder {
     pub used: usize,
     pub keys: usize,
@@ -171,7 +171,7 @@ impl PointBuilder {
         sequence: u64,
         new_key: bool,
     ) -> u8
-        ensures { result ≡ add_refusal self buffer.now (record { key = key.entry.now; kind = kind; size = length; sequence = sequence; new_key = new_key }) }
+        ensures { result ≡ add_refusal self buffer.now (record { key = key.now; kind = kind; size = length; sequence = sequence; new_key = new_key }) }
     {
         if !self.fits(buffer) {
             return Refusal::STATE;
@@ -240,7 +240,7 @@ impl PointBuilder {
         sequence: u64,
         new_key: bool,
     ) -> Added
-        ensures { AddPost self buffer.old (record { key = key.entry.now; kind = kind; size = length; sequence = sequence; new_key = new_key }) result buffer.new }
+        ensures { AddPost self buffer.old (record { key = key.now; kind = kind; size = length; sequence = sequence; new_key = new_key }) result buffer.new }
     {
         let refusal = self.add_refusal(buffer, key, kind, length, sequence, new_key);
         if refusal != 0 {
