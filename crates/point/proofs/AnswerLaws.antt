@@ -294,6 +294,7 @@ first_damaged body limit p (suc k) e = go (ltb (length body) (p + 21)) (bad_kind
 
 damaged_first : (body : List ℕ) (limit : Limit) (p k : ℕ) → VersionDamaged body limit p k → first_within body limit p k ≡ within.Damaged
 unfolding first_within version_at record_at
+damaged_first body limit p zero d = elim d [ ]
 damaged_first body limit p (suc k) (outside h) = rw (lt-ltb (length body) (p + 21) h)
 damaged_first body limit p (suc k) (bad_kind_is h q) = rw (le-ltb (length body) (p + 21) h, q)
 damaged_first body limit p (suc k) (later h q s v) = rw (le-ltb (length body) (p + 21) h, q, s) (damaged_first body limit (p + 21) k v)

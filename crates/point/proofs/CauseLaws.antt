@@ -157,6 +157,7 @@ between (c ∷ cs) = (leb 20 c.number && leb c.number 30) && between cs
 
 first_between : (cs : List Cause) (n : ℕ) → between cs ≡ true → First n cs → (20 ≤ n) × (n ≤ 30)
 unfolding between
+first_between [] n t f = elim f [ ]
 first_between (c ∷ cs) n t (here h e) =
     let low = leb 20 c.number in
     let high = leb c.number 30 in

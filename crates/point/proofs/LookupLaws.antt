@@ -78,10 +78,12 @@ greatest_means limit (x ∷ xs) = means_more limit x xs (greatest limit xs) (gre
 -- ---- and back: where sequences fall, no two records have one
 
 falls_below : (x : Record) (xs : List Record) (s : Record) → Falls (x ∷ xs) → Memᴰ s xs → s.sequence < x.sequence
+falls_below x [] s f m = elim m [ ]
 falls_below x (y ∷ ys) s (falls_more l f) (Memᴰ.head e) = rw e l
 falls_below x (y ∷ ys) s (falls_more l f) (Memᴰ.tail m) = let u = falls_below y ys s f m in omega arith
 
 falls_same : (rs : List Record) (r s : Record) → Falls rs → Memᴰ r rs → Memᴰ s rs → r.sequence ≡ s.sequence → r ≡ s
+falls_same [] r s f m n q = elim m [ ]
 falls_same (x ∷ xs) r s f (Memᴰ.head e) (Memᴰ.head d) q = e ∙ sym d
 falls_same (x ∷ xs) r s f (Memᴰ.head e) (Memᴰ.tail m) q = absurd (let u = falls_below x xs s f m in let v = ap (λ (t : Record). t.sequence) e in omega arith)
 falls_same (x ∷ xs) r s f (Memᴰ.tail m) (Memᴰ.head d) q = absurd (let u = falls_below x xs r f m in let v = ap (λ (t : Record). t.sequence) d in omega arith)
