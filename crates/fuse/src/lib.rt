@@ -8,7 +8,7 @@ ghost use Rattle.fuse.specs.Asking.{graph_hash, xor_at, contains_of};
 pub mod header;
 
 // What a Fuse header says; the cells stand beside it.
-#[derive(Drop)]
+#[derive(Clone, Copy)]
 pub struct Sizes {
     pub keys: u64,
     pub seed: u64,
