@@ -10,7 +10,7 @@ use fuse::Sizes;
 use table::{FIRSTS, LEASTS, SEGMENTS};
 
 // What building n hashes starts from: Positive at once, or sizes whose seed an attempt sets.
-#[derive(Drop)]
+#[derive(Clone, Copy)]
 pub enum Plan {
     Positive,
     Fuse(Sizes),
