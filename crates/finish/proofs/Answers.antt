@@ -69,6 +69,7 @@ module _ (arena : List ℕ) (out wide narrow : ℕ) where
       other (later h (later h1 (later h2 (here h3 z)))) = omega arith
       other (later h (later h1 (later h2 (later h3 (here h4 z))))) = omega arith
       other (later h (later h1 (later h2 (later h3 (later h4 (here h5 z)))))) = omega arith
+      other (later h (later h1 (later h2 (later h3 (later h4 (later _ x)))))) = elim x [ ]
 
       go : FirstOfTwo r (lengths_refusal arena out wide narrow) (placing_refusal arena (keys_of arena))
           → (lengths_refusal arena out wide narrow ≡ 0) × (placing_refusal arena (keys_of arena) ≡ r)
@@ -86,6 +87,7 @@ module _ (arena : List ℕ) (out wide narrow : ℕ) where
       go none f = refl
       go (some x) (here h z) = absurd (false≢true h)
       go (some x) (later h (here h1 z)) = absurd (omega arith)
+      go (some x) (later h (later _ y)) = elim y [ ]
 
   pub exhausts_ten : lengths_refusal arena out wide narrow ≡ 0 → ((i : ℕ) → i < 8 → attempt_of (attempt_hashes arena (keys_of arena) i) ≡ none) → finished_number (finish_of arena out wide narrow) ≡ 10
   unfolding placing_refusal placed_of
@@ -122,7 +124,9 @@ module _ (arena : List ℕ) (out wide narrow : ℕ) where
           → First 11 (cause (untaken o) 10 ∷ cause (mismatched (attempt_hashes arena (keys_of arena)) o) 11 ∷ []) → ⊥
       go any o q (here h z) = omega arith
       go any none q (later h (here h1 z)) = false≢true h1
+      go any none q (later h (later _ x)) = elim x [ ]
       go any (some (i, pl)) q (later h (here h1 z)) = false≢true (sym (check_passes arena (keys_of arena) i pl any q) ∙ h1)
+      go any (some (i, pl)) q (later h (later _ x)) = elim x [ ]
 
 -- THEOREM: past the length checks the answer is a body or 10
 pub body_or_ten : (arena : List ℕ) (out wide narrow : ℕ) → 0 < keys_of arena → lengths_refusal arena out wide narrow ≡ 0
