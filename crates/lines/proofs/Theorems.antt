@@ -1,6 +1,6 @@
 -- What is promised of the listing: which keys are shown and with which record, that keys rise, that the
 -- call's answer and buffer are fixed, its number and value, and the room that always suffices. Assumes nothing.
-use Prim.Native.Nat.{ℕ, ◌+◌, ◌<◌, ◌≤◌}
+use Prim.Native.Nat.{ℕ, ◌<◌, ◌≤◌}
 use native.Mathlib.Omega.{arith}
 use mathlib.Core.Path.{◌≡◌, refl, sym, ap, ◌∙◌, subst}
 use mathlib.Core.Bool.{Bool, true, false, cond}
@@ -61,6 +61,7 @@ record ShownBy (rule : Rule) (limit : ℕ) (t : List Entry) (s : Shows) : Type 0
 
 shown_by_lem : (rule : Rule) (limit : ℕ) (t : List Entry) (s : Shows) → Memᴰ s (shown_of rule limit t) → ShownBy rule limit t s
 unfolding shown_of
+shown_by_lem rule limit [] s m = elim m [ ]
 shown_by_lem rule limit (e ∷ es) s m = go (shown rule limit e) refl m (shown_by_lem rule limit es s)
   where
     behind : ShownBy rule limit es s → ShownBy rule limit (e ∷ es) s
@@ -81,6 +82,7 @@ shown_by_lem rule limit (e ∷ es) s m = go (shown rule limit e) refl m (shown_b
 by_shown : (rule : Rule) (limit : ℕ) (t : List Entry) (e : Entry) (r : Record) → Memᴰ e t → shown rule limit e ≡ some r
     → Memᴰ (record { key = e.key; version = r }) (shown_of rule limit t)
 unfolding shown_of
+by_shown rule limit [] e r m h = elim m [ ]
 by_shown rule limit (x ∷ xs) e r (Memᴰ.head q) h =
     subst (λ (o : Option Record). Memᴰ (record { key = e.key; version = r }) (shows_for x.key o (shown_of rule limit xs)))
     (sym h ∙ ap (shown rule limit) q)
