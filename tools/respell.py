@@ -95,6 +95,13 @@ def turn_cited(text, names, new):
     return TOKEN.sub(one, text)
 
 
+def of_the_kit(text):
+    """What a file imports from a library of the kit: those names are the library's, whatever a crate here declares."""
+    own = tuple(f"Rattle.{c}." for c in sorted(os.listdir("crates")))
+    lists = re.findall(r"(?m)^(?:pub )?use (\S+)\.\{(.*)\}$", text)
+    return {t for path, names in lists if not path.startswith(own) for t in TOKEN.findall(names)}
+
+
 def turn_file(path, text, names, new):
     if path.endswith(".md"):
         return re.sub(r"`[^`\n]+`", lambda m: turn_cited(m.group(0), names, new), text)
@@ -103,7 +110,8 @@ def turn_file(path, text, names, new):
     # a name that port.py turned already is turned on only where a file declares or imports it
     here = {t for line in text.split("\n") for t in TOKEN.findall(line.split("{", 1)[-1] if line.startswith("use ") else line if DECLARED.match(line) else "")}
     code = path.endswith(".rt")
-    names = {a: b for a, b in names.items() if re.search("[A-Z-]", a) or (a in here and not code)}
+    kit = of_the_kit(text)
+    names = {a: b for a, b in names.items() if a not in kit and (re.search("[A-Z-]", a) or (a in here and not code))}
     lines = []
     for line in text.split("\n"):
         comment = line.lstrip().startswith(("--", "//", "#"))
