@@ -73,7 +73,7 @@ fn queue_cells(narrow: &mut [u32], c: usize, top: usize, cells: &[usize]) -> usi
 }
 
 // One attempt's sizes: the seed, the segment, the count, and the number of cells.
-#[derive(Drop)]
+#[derive(Clone, Copy)]
 pub struct Graph {
     pub seed: u64,
     pub segment: usize,
@@ -96,7 +96,7 @@ fn load(hashes: &[u64], wide: &mut [u64], narrow: &mut [u32], g: Graph)
 }
 
 // How far an attempt is: cells on the queue, and hashes peeled.
-#[derive(Drop)]
+#[derive(Clone, Copy)]
 struct Progress {
     top: usize,
     peeled: usize,
