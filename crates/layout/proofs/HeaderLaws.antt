@@ -108,7 +108,7 @@ header_written o0 o1 o2 o3 o4 o5 n seed b start h eb es e1 e2 e3 e4 e5 =
     let m2 = index_magic ++ bytes_of 8 seed in
     let m3 = m2 ++ bytes_of 4 n in
     let m4 = m3 ++ bytes_of 4 b in
-    let l2 : length m2 ≡ 16 = simp (length-append, length_bytes_of) in
+    let l2 : length m2 ≡ 16 = simp length_bytes_of in
     let l3 : length m3 ≡ 20 = simp (length-append, length_bytes_of) in
     let l4 : length m4 ≡ 24 = simp (length-append, length_bytes_of) in
     let q2 : o2 ≡ splice o0 0 m2 = e2 ∙ ap (λ (z : List ℕ). splice z 8 (bytes_of 8 seed)) e1 ∙ splice_then o0 0 index_magic 8 (bytes_of 8 seed) (omega arith) refl in
@@ -125,7 +125,7 @@ module _ (seed n : ℕ) (few : n < 2 ^ 32) (rest : List ℕ) where
   unfolding header_bytes
   keys_read =
       le_written 4 n 16 (header_bytes seed n ++ rest) (index_magic ++ bytes_of 8 seed) (bytes_of 4 (buckets_of n) ++ (bytes_of 8 (arena_start n) ++ rest)) few
-      (simp (length-append, length_bytes_of)) (simp append_assoc)
+      (simp length_bytes_of) (simp append_assoc)
 
   pub buckets_read : buckets_in (header_bytes seed n ++ rest) ≡ buckets_of n
   unfolding header_bytes

@@ -24,8 +24,24 @@ slot_at-requires c = let few = few_buckets c.args.n in
 
 pub returns-then-arena-slot_at : goal.returns-then-arena-slot_at
 unfolding dimension_refusal
-returns-then-arena-slot_at c = rw (ne_eqb _ _ c.if-n-eq0.false, lt-leb _ _ c.if-n.false, ← c.buckets.ensures, eq-eqb _ _ c.if-b-buckets.false, ← c.slot_at.ensures, ne_eqb _ _ c.if-arena-slot_at.true)
+returns-then-arena-slot_at c =
+    rw (
+      ne_eqb _ _ c.if-n-eq0.false,
+      lt-leb _ _ c.if-n.false,
+      ← c.buckets.ensures,
+      eq-eqb _ _ c.if-b-buckets.false,
+      ← c.slot_at.ensures,
+      ne_eqb _ _ c.if-arena-slot_at.true,
+    )
 
 pub returns : goal.returns
 unfolding dimension_refusal
-returns c = rw (ne_eqb _ _ c.if-n-eq0.false, lt-leb _ _ c.if-n.false, ← c.buckets.ensures, eq-eqb _ _ c.if-b-buckets.false, ← c.slot_at.ensures, eq-eqb _ _ c.if-arena-slot_at.false)
+returns c =
+    rw (
+      ne_eqb _ _ c.if-n-eq0.false,
+      lt-leb _ _ c.if-n.false,
+      ← c.buckets.ensures,
+      eq-eqb _ _ c.if-b-buckets.false,
+      ← c.slot_at.ensures,
+      eq-eqb _ _ c.if-arena-slot_at.false,
+    )

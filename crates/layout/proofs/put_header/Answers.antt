@@ -9,4 +9,6 @@ unfolding buckets_of
 overflow_cast-b c = search rules
 
 pub returns : goal.returns
-returns c = header_written _ _ _ _ _ _ _ _ _ _ c.requires.1 c.buckets-b.ensures c.arena_start-start.ensures c.copy_at.ensures c.put_u64.ensures c.put_u32.ensures c.put_u32-2.ensures c.put_u64-2.ensures
+returns c =
+    header_written _ _ _ _ _ _ _ _ _ _ c.requires.1 c.buckets-b.ensures c.arena_start-start.ensures c.copy_at.ensures c.put_u64.ensures
+    c.put_u32.ensures c.put_u32-2.ensures c.put_u64-2.ensures
