@@ -7,7 +7,9 @@ use Rattle.point.specs.Inner.Walking.{Stepping}
 use Rattle.point.proofs.arena_refusal.Given as goal
 
 abbrev pub invariant-loop-left : goal.invariant-loop-left
-invariant-loop-left l = Stepping l.body l.prev l.p × ((walk_from (slot_refusal l.body) l.body (Of l.data_length) l.prev l.p l.left).rule ≡ arena_refusal l.body l.data_length)
+invariant-loop-left l =
+    Stepping l.body l.prev l.p
+    × ((walk_from (slot_refusal l.body) l.body (Of l.data_length) l.prev l.p l.left).rule ≡ arena_refusal l.body l.data_length)
 
 abbrev pub decreases-loop-left : goal.decreases-loop-left
 decreases-loop-left l = l.left

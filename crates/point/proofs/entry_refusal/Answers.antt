@@ -16,7 +16,9 @@ slot_refusal-s-requires c = let k = keyed _ c.args.prev c.args.p (sym c.key_refu
     record { checked = c.requires.checked; here = c.requires.here; whole = k.whole }
 
 pub returns-then-s-ne0 : goal.returns-then-s-ne0
-returns-then-s-ne0 c = entry_slot (slot_refusal c.args.body.now) _ (Of c.args.data_length) c.args.prev _ _ (sym c.key_refusal-r.ensures ∙ c.if-r-ne0.false) c.slot_refusal-s.ensures c.if-s-ne0.true
+returns-then-s-ne0 c =
+    entry_slot (slot_refusal c.args.body.now) _ (Of c.args.data_length) c.args.prev _ _ (sym c.key_refusal-r.ensures ∙ c.if-r-ne0.false)
+    c.slot_refusal-s.ensures c.if-s-ne0.true
 
 pub entry_versions_refusal-requires : goal.entry_versions_refusal-requires
 entry_versions_refusal-requires c = let a = c.args in
@@ -24,4 +26,5 @@ entry_versions_refusal-requires c = let a = c.args in
 
 pub returns : goal.returns
 returns c = let a = c.args in
-    entry_versions (slot_refusal a.body.now) _ (Of a.data_length) a.prev a.p _ (sym c.key_refusal-r.ensures ∙ c.if-r-ne0.false) (sym c.slot_refusal-s.ensures ∙ c.if-s-ne0.false) c.entry_versions_refusal.ensures
+    entry_versions (slot_refusal a.body.now) _ (Of a.data_length) a.prev a.p _ (sym c.key_refusal-r.ensures ∙ c.if-r-ne0.false)
+    (sym c.slot_refusal-s.ensures ∙ c.if-s-ne0.false) c.entry_versions_refusal.ensures

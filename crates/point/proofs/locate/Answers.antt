@@ -15,4 +15,6 @@ pub locate_hash-requires : goal.locate_hash-requires
 locate_hash-requires c = sym c.header_refusal.ensures ∙ c.if-header_refusal-ne0.false
 
 pub returns : goal.returns
-returns c = let e = locate_on _ c.args.key.now _ c.header_refusal.ensures c.if-header_refusal-ne0.false in cc (e, c.locate_hash.ensures, c.hash.ensures, c.seed_in.ensures)
+returns c =
+    let e = locate_on _ c.args.key.now _ c.header_refusal.ensures c.if-header_refusal-ne0.false in
+    cc (e, c.locate_hash.ensures, c.hash.ensures, c.seed_in.ensures)

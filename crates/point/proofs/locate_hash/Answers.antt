@@ -10,13 +10,21 @@ pub keys_in-requires : goal.keys_in-requires
 keys_in-requires c = let h = headed _ c.requires in omega arith
 
 pub returns-then-direct_past : goal.returns-then-direct_past
-returns-then-direct_past c = sym (locate_past _ c.args.h _ _ c.keys_in.ensures c.pilot_of.ensures (leb-true _ _ (sym c.direct_past.ensures ∙ c.if-direct_past.true)))
+returns-then-direct_past c =
+    sym (locate_past _ c.args.h _ _ c.keys_in.ensures c.pilot_of.ensures (leb-true _ _ (sym c.direct_past.ensures ∙ c.if-direct_past.true)))
 
 pub slot_of-s-requires : goal.slot_of-s-requires
-slot_of-s-requires c = (c.requires, near_is _ c.args.h _ _ c.keys_in.ensures c.pilot_of.ensures (leb-false _ _ (sym c.direct_past.ensures ∙ c.if-direct_past.false)))
+slot_of-s-requires c = (
+  c.requires,
+  near_is _ c.args.h _ _ c.keys_in.ensures c.pilot_of.ensures
+      (leb-false _ _ (sym c.direct_past.ensures ∙ c.if-direct_past.false)),
+)
 
 pub returns-then-u16_at-fingerprint : goal.returns-then-u16_at-fingerprint
-returns-then-u16_at-fingerprint c = sym (locate_other _ c.args.h _ _ c.keys_in.ensures c.pilot_of.ensures (leb-false _ _ (sym c.direct_past.ensures ∙ c.if-direct_past.false)) _ _ _ c.slot_of-s.ensures.0 c.u16_at.ensures c.fingerprint.ensures c.if-u16_at-fingerprint.true)
+returns-then-u16_at-fingerprint c =
+    sym (locate_other _ c.args.h _ _ c.keys_in.ensures c.pilot_of.ensures
+    (leb-false _ _ (sym c.direct_past.ensures ∙ c.if-direct_past.false)) _ _ _ c.slot_of-s.ensures.0 c.u16_at.ensures c.fingerprint.ensures
+    c.if-u16_at-fingerprint.true)
 
 pub arena_in-arena-requires : goal.arena_in-arena-requires
 arena_in-arena-requires c = let h = headed _ c.requires in omega arith
@@ -27,7 +35,8 @@ overflow_sub-body c = let h = headed _ c.requires in omega arith
 pub returns-then-body-arena : goal.returns-then-body-arena
 returns-then-body-arena c = let h = headed _ c.requires in
     sym
-    (locate_out _ c.args.h _ _ c.keys_in.ensures c.pilot_of.ensures (leb-false _ _ (sym c.direct_past.ensures ∙ c.if-direct_past.false)) _ _ _ c.slot_of-s.ensures.0 c.u16_at.ensures c.fingerprint.ensures _ _
+    (locate_out _ c.args.h _ _ c.keys_in.ensures c.pilot_of.ensures (leb-false _ _ (sym c.direct_past.ensures ∙ c.if-direct_past.false))
+    _ _ _ c.slot_of-s.ensures.0 c.u16_at.ensures c.fingerprint.ensures _ _
     c.if-u16_at-fingerprint.false c.arena_in-arena.ensures c.u64_at-offset.ensures (omega arith))
 
 pub overflow_add-place : goal.overflow_add-place
@@ -36,5 +45,6 @@ overflow_add-place c = let h = headed _ c.requires in omega arith
 pub returns : goal.returns
 returns c = let h = headed _ c.requires in
     sym
-    (locate_at _ c.args.h _ _ c.keys_in.ensures c.pilot_of.ensures (leb-false _ _ (sym c.direct_past.ensures ∙ c.if-direct_past.false)) _ _ _ c.slot_of-s.ensures.0 c.u16_at.ensures c.fingerprint.ensures _ _
+    (locate_at _ c.args.h _ _ c.keys_in.ensures c.pilot_of.ensures (leb-false _ _ (sym c.direct_past.ensures ∙ c.if-direct_past.false))
+    _ _ _ c.slot_of-s.ensures.0 c.u16_at.ensures c.fingerprint.ensures _ _
     c.if-u16_at-fingerprint.false c.arena_in-arena.ensures c.u64_at-offset.ensures (omega arith))

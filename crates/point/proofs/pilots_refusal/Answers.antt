@@ -14,7 +14,12 @@ pub buckets_in-b-requires : goal.buckets_in-b-requires
 buckets_in-b-requires c = let h = headed _ c.requires in omega arith
 
 pub loop-i-init : goal.loop-i-init
-loop-i-init c = (c.keys_in-n.ensures, c.buckets_in-b.ensures, omega arith, cc (sub-zero c.buckets_in-b.result, c.keys_in-n.ensures, c.buckets_in-b.ensures))
+loop-i-init c = (
+  c.keys_in-n.ensures,
+  c.buckets_in-b.ensures,
+  omega arith,
+  cc (sub-zero c.buckets_in-b.result, c.keys_in-n.ensures, c.buckets_in-b.ensures),
+)
 
 pub overflow_mul-i : goal.overflow_mul-i
 overflow_mul-i c = let h = headed _ c.requires in let l = c.loop-i.invariant in omega arith
@@ -32,8 +37,13 @@ returns-then-direct_past c = let l = c.loop-i in
 
 pub loop-i-preserved : goal.loop-i-preserved
 loop-i-preserved c = let l = c.loop-i in
-    let e : pilot_at c.args.body.now l.i ≡ c.u32_at.result = sym c.u32_at.ensures in
-    (l.invariant.0, l.invariant.1, omega arith, sym (pilots_next _ _ l.i _ (omega arith) (ap (direct_past _) e ∙ sym c.direct_past.ensures ∙ c.if-direct_past.false)) ∙ l.invariant.3)
+    let e : pilot_at c.args.body.now l.i ≡ c.u32_at.result = sym c.u32_at.ensures in (
+      l.invariant.0,
+      l.invariant.1,
+      omega arith,
+      sym (pilots_next _ _ l.i _ (omega arith)
+          (ap (direct_past _) e ∙ sym c.direct_past.ensures ∙ c.if-direct_past.false)) ∙ l.invariant.3,
+    )
 
 pub returns : goal.returns
 returns c = let l = c.loop-i in sym (pilots_end _ _ l.i _ (omega arith)) ∙ l.invariant.3
