@@ -1,4 +1,5 @@
--- `put_lines` writes the lines of the table. The loop's invariant: the lines from here on, with those written, are the whole. Assumes nothing.
+-- `put_lines` writes the lines of the table. The loop's invariant: the lines from here on, with those written, are the whole.
+-- Assumes nothing.
 use native.Mathlib.Omega.{arith}
 use Rattle.records.proofs.StandsLaws.{stands_here}
 use Rattle.point.specs.Table.{table_of}
@@ -16,10 +17,12 @@ loop-left-init c = going_first _ _ _ _ _ _ _ c.requires.0 c.arena_in-p.ensures c
 
 pub put_entry-l-requires : goal.put_entry-l-requires
 unfolding table_of
-put_entry-l-requires c = (stands_here c.loop-left-test.true c.loop-left.invariant.stand, going_room c.loop-left.invariant c.loop-left-test.true c.requires.1)
+put_entry-l-requires c =
+    (stands_here c.loop-left-test.true c.loop-left.invariant.stand, going_room c.loop-left.invariant c.loop-left-test.true c.requires.1)
 
 pub overflow_add-shown : goal.overflow_add-shown
-overflow_add-shown c = omega (arith, going_count c.loop-left.invariant c.loop-left-test.true (λ i. (c.type_inv.body i).fits), c.put_entry-l.ensures.counted)
+overflow_add-shown c =
+    omega (arith, going_count c.loop-left.invariant c.loop-left-test.true (λ i. (c.type_inv.body i).fits), c.put_entry-l.ensures.counted)
 
 pub next_entry-p-requires : goal.next_entry-p-requires
 next_entry-p-requires c = (stands_here c.loop-left-test.true c.loop-left.invariant.stand).next
@@ -31,7 +34,8 @@ pub loop-left-smaller : goal.loop-left-smaller
 loop-left-smaller c = omega (arith, c.loop-left-test.true)
 
 pub loop-left-preserved : goal.loop-left-preserved
-loop-left-preserved c = going_on c.loop-left.invariant c.loop-left-test.true _ _ _ c.put_entry-l.ensures c.put_entry-l.auto.out c.next_entry-p.ensures
+loop-left-preserved c =
+    going_on c.loop-left.invariant c.loop-left-test.true _ _ _ c.put_entry-l.ensures c.put_entry-l.auto.out c.next_entry-p.ensures
 
 pub shape_of-out : goal.shape_of-out
 shape_of-out c = c.loop-left.invariant.size

@@ -1,4 +1,5 @@
--- `put_lines` writes the lines of the table. The loop's invariant: the lines from here on, with those written, are the whole. Assumes nothing.
+-- `put_lines` writes the lines of the table. The loop's invariant: the lines from here on, with those written, are the whole.
+-- Assumes nothing.
 use Rattle.lines.specs.Shown.{newest_tombstone}
 use Rattle.lines.proofs.LinesLaws.{Going}
 use Rattle.lines.proofs.put_lines.Given as goal

@@ -18,15 +18,20 @@ put_field-c-requires c = ends_first _ (ends_second c.put_kind-b.ensures (ends_se
 
 pub put_field-d-requires : goal.put_field-d-requires
 unfolding record_text
-put_field-d-requires c = ends_first _ (ends_second c.put_field-c.ensures (ends_second c.put_kind-b.ensures (ends_second c.put_field-a.ensures c.requires)))
+put_field-d-requires c =
+    ends_first _ (ends_second c.put_field-c.ensures (ends_second c.put_kind-b.ensures (ends_second c.put_field-a.ensures c.requires)))
 
 pub put_byte-requires : goal.put_byte-requires
 unfolding record_text
-put_byte-requires c = ends_second c.put_field-d.ensures (ends_second c.put_field-c.ensures (ends_second c.put_kind-b.ensures (ends_second c.put_field-a.ensures c.requires)))
+put_byte-requires c =
+    ends_second c.put_field-d.ensures (ends_second c.put_field-c.ensures
+    (ends_second c.put_kind-b.ensures (ends_second c.put_field-a.ensures c.requires)))
 
 pub shape_of-out : goal.shape_of-out
 shape_of-out c = c.put_byte.auto.out ∙ c.put_field-d.auto.out ∙ c.put_field-c.auto.out ∙ c.put_kind-b.auto.out ∙ c.put_field-a.auto.out
 
 pub returns : goal.returns
 unfolding record_text
-returns c = written_then c.put_field-a.ensures (written_then c.put_kind-b.ensures (written_then c.put_field-c.ensures (written_then c.put_field-d.ensures c.put_byte.ensures)))
+returns c =
+    written_then c.put_field-a.ensures (written_then c.put_kind-b.ensures
+    (written_then c.put_field-c.ensures (written_then c.put_field-d.ensures c.put_byte.ensures)))

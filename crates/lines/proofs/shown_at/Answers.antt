@@ -9,4 +9,5 @@ returns-then-tombstone_found c = let s = c.requires in
 
 pub returns : goal.returns
 returns c = let s = c.requires in
-    shown_found _ _ _ s _ (ruled_newest _ _ _ s _ c.entry_within-newest.ensures ∙ sym c.tombstone_found.ensures ∙ c.if-tombstone_found.false) _ c.entry_within.ensures
+    let e = ruled_newest _ _ _ s _ c.entry_within-newest.ensures ∙ sym c.tombstone_found.ensures ∙ c.if-tombstone_found.false in
+    shown_found _ _ _ s _ e _ c.entry_within.ensures
