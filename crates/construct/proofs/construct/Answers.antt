@@ -20,14 +20,18 @@ returns-then-attempt c = let a = c.attempt in
     let buckets = c.buckets-b in
     let loop = c.loop-i in
     let seed = c.seed in
-    built_placed _ _ _ loop.invariant.2 _ _ a.new.wide a.new.narrow a.result buckets.ensures seed.ensures a.ensures (omega arith) c.if-attempt.true
+    built_placed _ _ _ loop.invariant.2 _ _ a.new.wide a.new.narrow a.result buckets.ensures seed.ensures a.ensures
+    (omega arith) c.if-attempt.true
 
 pub loop-i-preserved : goal.loop-i-preserved
 loop-i-preserved c = let a = c.attempt in
     let w = c.loop-i.invariant in
     let buckets = c.buckets-b in
-    let seed = c.seed in
-    (a.auto.wide ∙ w.0, a.auto.narrow ∙ w.1, failed_more _ _ _ w.2 _ _ a.new.wide a.new.narrow a.result buckets.ensures seed.ensures a.ensures c.if-attempt.false)
+    let seed = c.seed in (
+      a.auto.wide ∙ w.0,
+      a.auto.narrow ∙ w.1,
+      failed_more _ _ _ w.2 _ _ a.new.wide a.new.narrow a.result buckets.ensures seed.ensures a.ensures c.if-attempt.false,
+    )
 
 pub returns : goal.returns
 unfolding attempts

@@ -26,8 +26,10 @@ checked-requires c = let k = c.construct-c in
     let kept = c.construct-c.auto.narrow in
     let words = c.requires.1 in
     let few = few_buckets c.args.n in
-    let e = c.buckets-b.ensures in
-    (room_kept _ _ _ _ _ c.requires.0 k.auto.wide, chosen _ _ _ _ _ _ _ _ k.result c.in-Placed.is k.ensures (omega arith) e c.pilots.ensures c.slots.ensures)
+    let e = c.buckets-b.ensures in (
+      room_kept _ _ _ _ _ c.requires.0 k.auto.wide,
+      chosen _ _ _ _ _ _ _ _ k.result c.in-Placed.is k.ensures (omega arith) e c.pilots.ensures c.slots.ensures,
+    )
 
 pub returns-in-Exhausted : goal.returns-in-Exhausted
 returns-in-Exhausted c = let k = c.construct-c in

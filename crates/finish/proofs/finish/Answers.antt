@@ -42,5 +42,6 @@ returns c = let a = c.args in
     let passed = sym c.length_refusal-refused.ensures ∙ z in
     let built = c.build-r in
     post_late a.arena.now a.out.now a.wide.now a.narrow.now _ c.walk-walked.ensures passed _ _ _ _ built.ensures
-    (c.clear_u64.ensures ∙ ap (λ (x : ℕ). replicate x 0) (length_front a.wide.now built.new.wide (c.walk-walked.result.keys + c.walk-walked.result.keys) built.auto.wide))
+    (c.clear_u64.ensures ∙ ap (λ (x : ℕ). replicate x 0)
+    (length_front a.wide.now built.new.wide (c.walk-walked.result.keys + c.walk-walked.result.keys) built.auto.wide))
     (c.clear_u32.ensures ∙ ap (λ (x : ℕ). replicate x 0) built.auto.narrow)

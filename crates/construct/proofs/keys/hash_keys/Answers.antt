@@ -1,4 +1,5 @@
--- `hash_keys` stores the keys' hashes one after another. The loop's invariant: p is the place of entry i, and the first i hashes stand. Assumes nothing.
+-- `hash_keys` stores the keys' hashes one after another. The loop's invariant: p is the place of entry i, and the first i hashes stand.
+-- Assumes nothing.
 use Prim.Native.Nat.{◌≤◌, ◌<◌}
 use mathlib.Core.Path.{◌≡◌, refl, sym, ap, ◌∙◌}
 use native.Mathlib.Omega.{arith}
@@ -29,8 +30,12 @@ next_entry-p-requires c = let pre = c.requires in
 pub loop-i-preserved : goal.loop-i-preserved
 loop-i-preserved c = let w = c.loop-i.invariant in
     let low : c.loop-i.i < length c.loop-i.hashes = omega arith in
-    let hash_at = c.hash_at in
-    (omega arith, simp length-set w.1, c.next_entry-p.ensures ∙ ap (next_entry _) w.2 ∙ sym (entry_next _ _), hashes_more _ _ _ _ _ _ low w.2 hash_at.ensures w.3)
+    let hash_at = c.hash_at in (
+      omega arith,
+      simp length-set w.1,
+      c.next_entry-p.ensures ∙ ap (next_entry _) w.2 ∙ sym (entry_next _ _),
+      hashes_more _ _ _ _ _ _ low w.2 hash_at.ensures w.3,
+    )
 
 pub returns : goal.returns
 returns c = let w = c.loop-i.invariant in

@@ -1,4 +1,5 @@
--- `construct::place::place_group` meets its contract. The search is over the bucket's members and the slots, both lent; its pilot is noted. Assumes nothing.
+-- `construct::place::place_group` meets its contract. The search is over the bucket's members and the slots, both lent; its pilot is noted.
+-- Assumes nothing.
 use mathlib.Core.Path.{sym}
 use mathlib.Core.List.{[]}
 use native.Mathlib.Omega.{arith}
@@ -45,10 +46,12 @@ pub returns-then-p-eq-TRIES : goal.returns-then-p-eq-TRIES
 unfolding tries
 returns-then-p-eq-TRIES c = let pre = c.requires in
     let find-pilot = c.find_pilot-p in
-    lent_none _ _ _ _ pre.bench _ pre.k_lt_b _ c.slots_from-base.ensures _ _ _ (bench_group _ _ _ _ pre.bench _ pre.k_lt_b) find-pilot.ensures c.if-p-eq-TRIES.true
+    lent_none _ _ _ _ pre.bench _ pre.k_lt_b _ c.slots_from-base.ensures _ _ _
+    (bench_group _ _ _ _ pre.bench _ pre.k_lt_b) find-pilot.ensures c.if-p-eq-TRIES.true
 
 pub returns : goal.returns
 unfolding tries
 returns c = let pre = c.requires in
     let find-pilot = c.find_pilot-p in
-    lent_some _ _ _ _ pre.bench _ pre.k_lt_b _ c.slots_from-base.ensures _ _ _ (bench_group _ _ _ _ pre.bench _ pre.k_lt_b) find-pilot.ensures c.if-p-eq-TRIES.false find-pilot.auto.slots _ c.pilots_from.ensures
+    lent_some _ _ _ _ pre.bench _ pre.k_lt_b _ c.slots_from-base.ensures _ _ _
+    (bench_group _ _ _ _ pre.bench _ pre.k_lt_b) find-pilot.ensures c.if-p-eq-TRIES.false find-pilot.auto.slots _ c.pilots_from.ensures

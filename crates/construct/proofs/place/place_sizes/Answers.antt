@@ -14,13 +14,18 @@ pub returns-then-not-place_size : goal.returns-then-not-place_size
 returns-then-not-place_size c = let l = c.loop-s in
     let loop-test = c.loop-s-test in
     let place-size = c.place_size in
-    down_fails _ _ _ _ _ _ _ place-size.new.narrow place-size.result l.invariant.0 l.invariant.2 place-size.ensures loop-test.true c.if-not-place_size.true
+    down_fails _ _ _ _ _ _ _ place-size.new.narrow place-size.result l.invariant.0 l.invariant.2 place-size.ensures
+    loop-test.true c.if-not-place_size.true
 
 pub loop-s-preserved : goal.loop-s-preserved
 loop-s-preserved c = let l = c.loop-s in
     let loop-test = c.loop-s-test in
-    let place-size = c.place_size in
-    (omega arith, omega arith, down_more _ _ _ _ _ _ _ place-size.new.narrow place-size.result l.invariant.0 l.invariant.2 place-size.ensures loop-test.true c.if-not-place_size.false place-size.auto.narrow)
+    let place-size = c.place_size in (
+      omega arith,
+      omega arith,
+      down_more _ _ _ _ _ _ _ place-size.new.narrow place-size.result l.invariant.0 l.invariant.2 place-size.ensures
+          loop-test.true c.if-not-place_size.false place-size.auto.narrow,
+    )
 
 pub returns : goal.returns
 returns c = let l = c.loop-s in

@@ -1,4 +1,5 @@
--- `construct::seat::find_pilot` meets its contract. The loop's invariant: no pilot before p seats the members, and the slots are as they were. Assumes nothing.
+-- `construct::seat::find_pilot` meets its contract. The loop's invariant: no pilot before p seats the members, and the slots are as they
+-- were. Assumes nothing.
 use Prim.Native.Nat.{◌<◌}
 use mathlib.Core.Path.{refl, ap, ◌∙◌}
 use native.Mathlib.Omega.{arith}

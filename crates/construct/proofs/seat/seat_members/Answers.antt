@@ -10,7 +10,11 @@ loop-j-init c = (omega arith, refl, seat_none _ _ _ _)
 
 pub returns-then-slots-at-ne0 : goal.returns-then-slots-at-ne0
 returns-then-slots-at-ne0 c = let l = c.loop-j in
-    record { most = l.invariant.0; seats = l.invariant.2; stuck = λ _. seat_stuck _ _ _ _ _ _ _ c.spot_of-at.ensures.value l.invariant.2 c.if-slots-at-ne0.true }
+    record {
+      most = l.invariant.0;
+      seats = l.invariant.2;
+      stuck = λ _. seat_stuck _ _ _ _ _ _ _ c.spot_of-at.ensures.value l.invariant.2 c.if-slots-at-ne0.true;
+    }
 
 pub overflow_add-slots : goal.overflow_add-slots
 overflow_add-slots c = let pre = c.requires in

@@ -7,7 +7,8 @@ use Rattle.construct.specs.Construct.{seat}
 use Rattle.construct.proofs.seat.seat_members.Given as goal
 
 abbrev pub invariant-loop-j : goal.invariant-loop-j
-invariant-loop-j l = (l.j ≤ length l.ms) × (length l.slots ≡ length l.initial.slots) × (seat l.hs l.ms l.pilot l.j l.initial.slots ≡ some l.slots)
+invariant-loop-j l =
+    (l.j ≤ length l.ms) × (length l.slots ≡ length l.initial.slots) × (seat l.hs l.ms l.pilot l.j l.initial.slots ≡ some l.slots)
 
 abbrev pub decreases-loop-j : goal.decreases-loop-j
 decreases-loop-j l = length l.ms - l.j

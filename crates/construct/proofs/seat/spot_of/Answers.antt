@@ -11,4 +11,7 @@ unfolding spot
 returns c = let at = c.args in
     let pre = c.requires in
     let hash_of_lem = c.hash_of in
-    record { value = c.position.ensures ∙ ap (λ (x : ℕ). position_of x at.pilot (length at.hs.now)) hash_of_lem.ensures; upper_bound = subst (λ (x : ℕ). x < length at.hs.now) (sym c.position.ensures) (position_of_lt _ _ _ pre.keys.any) }
+    record {
+      value = c.position.ensures ∙ ap (λ (x : ℕ). position_of x at.pilot (length at.hs.now)) hash_of_lem.ensures;
+      upper_bound = subst (λ (x : ℕ). x < length at.hs.now) (sym c.position.ensures) (position_of_lt _ _ _ pre.keys.any);
+    }

@@ -8,7 +8,9 @@ use Rattle.construct.specs.Construct.{seat}
 use Rattle.construct.proofs.seat.unseat.Given as goal
 
 abbrev pub invariant-loop-j : goal.invariant-loop-j
-invariant-loop-j l = (l.j ≤ length l.ms) × (length l.slots ≡ length l.initial.slots) × ((s : List ℕ) → seat l.hs l.ms l.pilot l.count s ≡ some l.initial.slots → seat l.hs l.ms l.pilot l.j s ≡ some l.slots)
+invariant-loop-j l =
+    (l.j ≤ length l.ms) × (length l.slots ≡ length l.initial.slots)
+    × ((s : List ℕ) → seat l.hs l.ms l.pilot l.count s ≡ some l.initial.slots → seat l.hs l.ms l.pilot l.j s ≡ some l.slots)
 
 abbrev pub decreases-loop-j : goal.decreases-loop-j
 decreases-loop-j l = l.j

@@ -1,4 +1,5 @@
--- `construct::single::place_singles` meets its contract. The loop's invariant: the buckets below k are passed, and the slots below `from` are taken. Assumes nothing.
+-- `construct::single::place_singles` meets its contract. The loop's invariant: the buckets below k are passed, and the slots below `from`
+-- are taken. Assumes nothing.
 use mathlib.Core.Path.{refl, ◌∙◌}
 use mathlib.Core.Bool.{true, false}
 use native.Mathlib.Omega.{arith}
@@ -22,7 +23,8 @@ returns-then-n-from c = let pre = c.requires in
     let loop = c.loop-k in
     let loop-test = c.loop-k-test in
     let single_of = c.single_of-from in
-    so_far_fails _ _ _ _ _ _ single_of.new.narrow false loop.invariant.2 (single_of.ensures.failed c.if-n-from.true) _ (omega (arith, loop-test.true, bench_buckets _ _ _ _ pre)) refl
+    so_far_fails _ _ _ _ _ _ single_of.new.narrow false loop.invariant.2 (single_of.ensures.failed c.if-n-from.true) _
+    (omega (arith, loop-test.true, bench_buckets _ _ _ _ pre)) refl
 
 pub loop-k-smaller : goal.loop-k-smaller
 loop-k-smaller c = omega arith
@@ -31,7 +33,12 @@ pub loop-k-preserved : goal.loop-k-preserved
 loop-k-preserved c = let e = c.single_of-from.ensures in
     let loop = c.loop-k in
     let single_of = c.single_of-from in
-    (omega arith, c.if-n-from.false, so_far_more _ _ _ _ _ _ single_of.new.narrow true loop.invariant.2 (e.went c.if-n-from.false) refl single_of.auto.narrow, e.taken c.if-n-from.false)
+    let went = e.went c.if-n-from.false in (
+      omega arith,
+      c.if-n-from.false,
+      so_far_more _ _ _ _ _ _ single_of.new.narrow true loop.invariant.2 went refl single_of.auto.narrow,
+      e.taken c.if-n-from.false,
+    )
 
 pub shape_of-narrow : goal.shape_of-narrow
 shape_of-narrow c = c.loop-k.invariant.2.long

@@ -13,7 +13,8 @@ pub overflow_add-s : goal.overflow_add-s
 overflow_add-s c = omega (arith, bench_inside _ _ _ _ c.requires.bench _ c.requires.k_lt_b.0, c.requires.k_lt_b.1, c.requires.k_lt_b.2)
 
 pub offset_bounds-wide-s : goal.offset_bounds-wide-s
-offset_bounds-wide-s c = omega (arith, bench_inside _ _ _ _ c.requires.bench _ c.requires.k_lt_b.0, c.requires.k_lt_b.1, c.requires.k_lt_b.2)
+offset_bounds-wide-s c =
+    omega (arith, bench_inside _ _ _ _ c.requires.bench _ c.requires.k_lt_b.0, c.requires.k_lt_b.1, c.requires.k_lt_b.2)
 
 pub bounds-wide-s : goal.bounds-wide-s
 bounds-wide-s c = omega (arith, bench_inside _ _ _ _ c.requires.bench _ c.requires.k_lt_b.0, c.requires.k_lt_b.1, c.requires.k_lt_b.2)

@@ -29,7 +29,11 @@ put_single-requires c = let pre = c.requires in
     let next-free = c.next_free-at in
     record {
       bench = pre.bench;
-      k_lt_b = (pre.k_lt_b.0, if1.false, single_low _ _ _ _ pre.bench _ pre.k_lt_b.0 _ slots.ensures if1.false _ next-free.ensures c.if-at-n.false);
+      k_lt_b = (
+        pre.k_lt_b.0,
+        if1.false,
+        single_low _ _ _ _ pre.bench _ pre.k_lt_b.0 _ slots.ensures if1.false _ next-free.ensures c.if-at-n.false,
+      );
     }
 
 pub returns : goal.returns

@@ -1,4 +1,5 @@
--- `finish::body::list_places` meets its contract. The loop's invariant: p is the place of entry i, and the places before it stand behind the hashes. Assumes nothing.
+-- `finish::body::list_places` meets its contract. The loop's invariant: p is the place of entry i, and the places before it stand behind
+-- the hashes. Assumes nothing.
 use native.Mathlib.Omega.{arith}
 use mathlib.Core.Path.{refl, sym, ap, ◌∙◌}
 use lib.ListN.{length-set}
@@ -16,7 +17,8 @@ next_entry-p-requires c = entry_inside _ _ c.loop-i.i _ c.requires.0 c.loop-i.in
 pub loop-i-preserved : goal.loop-i-preserved
 loop-i-preserved c = let l = c.loop-i in
     let a = c.args in
-    let m = listed_more a.arena.now l.wide a.wide.now a.n l.i l.p c.loop-i-test.true (l.invariant.1 ∙ c.requires.1) l.invariant.2 l.invariant.3 l.invariant.4 in
+    let long = l.invariant.1 ∙ c.requires.1 in
+    let m = listed_more a.arena.now l.wide a.wide.now a.n l.i l.p c.loop-i-test.true long l.invariant.2 l.invariant.3 l.invariant.4 in
     (omega arith, simp length-set l.invariant.1, c.next_entry-p.ensures ∙ ap (next_entry _) l.invariant.2 ∙ sym (entry_next _ _), m.0, m.1)
 
 pub returns : goal.returns

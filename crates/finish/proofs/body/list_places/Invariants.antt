@@ -1,4 +1,5 @@
--- `finish::body::list_places` meets its contract. The loop's invariant: p is the place of entry i, and the places before it stand behind the hashes. Assumes nothing.
+-- `finish::body::list_places` meets its contract. The loop's invariant: p is the place of entry i, and the places before it stand behind
+-- the hashes. Assumes nothing.
 use Prim.Native.Nat.{ℕ, ◌+◌, ◌-◌, ◌≤◌, ◌<◌}
 use mathlib.Core.Path.{◌≡◌}
 use lib.ListN.{length, get_or}

@@ -21,4 +21,5 @@ copy_at-requires c = let room = c.requires.0.room in
 
 pub returns : goal.returns
 returns c = let pre = c.requires in
-    body_written _ _ _ _ _ _ _ _ _ _ _ _ pre.0 pre.1 c.list_places.ensures c.arena_start.ensures c.write_front.ensures c.write_slots.ensures c.copy_at.ensures
+    body_written _ _ _ _ _ _ _ _ _ _ _ _ pre.0 pre.1 c.list_places.ensures c.arena_start.ensures
+    c.write_front.ensures c.write_slots.ensures c.copy_at.ensures

@@ -103,4 +103,5 @@ pub returns : goal.returns
 returns c = let l = c.loop-s in
     let a = c.args in
     let whole : length a.slots.now ≤ l.s = omega arith in
-    l.invariant.3 ∙ ap (λ (z : List ℕ). splice a.out.now a.at (flat_map (listed_slot a.wide.now (length a.slots.now)) z)) (take_all l.s a.slots.now whole)
+    l.invariant.3 ∙ ap (λ (z : List ℕ). splice a.out.now a.at (flat_map (listed_slot a.wide.now (length a.slots.now)) z))
+    (take_all l.s a.slots.now whole)

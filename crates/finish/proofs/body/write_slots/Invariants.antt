@@ -8,7 +8,9 @@ use Rattle.finish.specs.Inner.Needs.{listed_slot}
 use Rattle.finish.proofs.body.write_slots.Given as goal
 
 abbrev pub invariant-loop-s : goal.invariant-loop-s
-invariant-loop-s l = (l.n ≡ length l.slots) × (l.s ≤ l.n) × (length l.out ≡ length l.initial.out) × (l.out ≡ splice l.initial.out l.at (flat_map (listed_slot l.wide (length l.slots)) (take l.s l.slots)))
+invariant-loop-s l =
+    (l.n ≡ length l.slots) × (l.s ≤ l.n) × (length l.out ≡ length l.initial.out)
+    × (l.out ≡ splice l.initial.out l.at (flat_map (listed_slot l.wide (length l.slots)) (take l.s l.slots)))
 
 abbrev pub decreases-loop-s : goal.decreases-loop-s
 decreases-loop-s l = l.n - l.s

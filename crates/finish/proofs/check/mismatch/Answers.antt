@@ -17,7 +17,8 @@ returns-then-unmatched c = let l = c.loop-s in
 
 pub loop-s-preserved : goal.loop-s-preserved
 loop-s-preserved c = let l = c.loop-s in
-    (l.invariant.0, omega arith, any_miss _ l.s (unmatched_at_lem _ _ _ _ _ _ l.invariant.0 c.unmatched.ensures ∙ c.if-unmatched.false) l.invariant.2)
+    let here = unmatched_at_lem _ _ _ _ _ _ l.invariant.0 c.unmatched.ensures in
+    (l.invariant.0, omega arith, any_miss _ l.s (here ∙ c.if-unmatched.false) l.invariant.2)
 
 pub returns : goal.returns
 unfolding mismatch
