@@ -14,7 +14,7 @@ use fuse::{Sizes, header};
 use words::part;
 
 // What a filter's bytes hold: Positive, sizes beside the lent cells, or nothing that is accepted.
-#[derive(Drop)]
+#[derive(Clone, Copy)]
 pub enum SstFilter {
     Positive,
     Fuse(Sizes),
@@ -22,7 +22,7 @@ pub enum SstFilter {
 }
 
 // Whether a filter holds a hash.
-#[derive(Drop)]
+#[derive(Clone, Copy)]
 pub enum Asked {
     Absent,
     Maybe,
@@ -30,7 +30,7 @@ pub enum Asked {
 }
 
 // How writing went: the bytes written, no filter that reading accepts, or an output that is too short.
-#[derive(Drop)]
+#[derive(Clone, Copy)]
 pub enum Written {
     Length(usize),
     Unaccepted,
@@ -38,7 +38,7 @@ pub enum Written {
 }
 
 // What building gives: Positive, the sizes of the filter that was written, or a refusal with its number.
-#[derive(Drop)]
+#[derive(Clone, Copy)]
 pub enum Built {
     Positive,
     Fuse(Sizes),
