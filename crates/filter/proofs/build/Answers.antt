@@ -13,7 +13,8 @@ returns-then-number-ne0 c = let a = c.args in
 
 pub lay-built-requires : goal.lay-built-requires
 lay-built-requires c = let a = c.args in
-    let r = roomy (length a.hashes.now) (length a.wide.now) (length a.narrow.now) (length a.out.now) (sym c.refusal-number.ensures ∙ c.if-number-ne0.false) in
+    let r = roomy (length a.hashes.now) (length a.wide.now) (length a.narrow.now) (length a.out.now)
+    (sym c.refusal-number.ensures ∙ c.if-number-ne0.false) in
     let n : length c.sort.new.hashes ≡ length a.hashes.now = search rules in
     subst (λ (k : ℕ). Roomy k (length a.wide.now) (length a.narrow.now) (length a.out.now)) (sym n) r
 

@@ -10,7 +10,8 @@ use Rattle.filter.proofs.put_front.Goals as goal
 pub put_header-requires : goal.put_header-requires
 put_header-requires c = let s = c in (
   omega arith,
-  (fitting_accepted c.in-Fuse.s s.args.cells (acceptable_fuse s.args.filter s.args.cells c.in-Fuse.s c.in-Fuse.is ∙ s.requires.0)).fits.usable.small,
+  (fitting_accepted c.in-Fuse.s s.args.cells
+      (acceptable_fuse s.args.filter s.args.cells c.in-Fuse.s c.in-Fuse.is ∙ s.requires.0)).fits.usable.small,
 )
 
 pub returns-in-Positive : goal.returns-in-Positive

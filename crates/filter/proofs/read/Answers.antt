@@ -12,7 +12,8 @@ returns-then-is_positive c = read_positive c.args.bytes.now (sym c.is_positive.e
 
 pub returns-then-bytes-lt-HEADER : goal.returns-then-bytes-lt-HEADER
 returns-then-bytes-lt-HEADER c = let bytes = c.args.bytes.now in
-    read_other bytes false (sym c.is_positive.ensures ∙ c.if-is_positive.false) (short_none bytes (sizes_in bytes) c.if-bytes-lt-HEADER.true)
+    read_other bytes false (sym c.is_positive.ensures ∙ c.if-is_positive.false)
+    (short_none bytes (sizes_in bytes) c.if-bytes-lt-HEADER.true)
 
 pub returns-then-is_fuse : goal.returns-then-is_fuse
 returns-then-is_fuse c = let bytes = c.args.bytes.now in

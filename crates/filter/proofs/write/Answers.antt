@@ -9,7 +9,7 @@ use Rattle.filter.proofs.write.Goals as goal
 
 pub returns-then-out-length : goal.returns-then-out-length
 returns-then-out-length c = let a = c.args in
-    short_post a.filter a.cells.now a.out.now (sym c.is_acceptable.ensures ∙ c.if-is_acceptable.true) c.if-out-length.true
+    short_post a.filter a.cells.now a.out.now (sym c.is_acceptable.ensures ∙ c.if-is_acceptable.true) (omega arith)
 
 pub put_front-requires : goal.put_front-requires
 put_front-requires c = (sym c.is_acceptable.ensures ∙ c.if-is_acceptable.true, omega arith)
@@ -17,7 +17,7 @@ put_front-requires c = (sym c.is_acceptable.ensures ∙ c.if-is_acceptable.true,
 pub returns-else-out-length : goal.returns-else-out-length
 returns-else-out-length c = let a = c.args in
     whole_post a.filter a.cells.now a.out.now (sym c.is_acceptable.ensures ∙ c.if-is_acceptable.true)
-    c.if-out-length.false _ (c.copy_at.ensures ∙ ap (λ (t : List ℕ). splice t 48 a.cells.now) c.put_front.ensures)
+    (omega arith) _ (c.copy_at.ensures ∙ ap (λ (t : List ℕ). splice t 48 a.cells.now) c.put_front.ensures)
 
 pub returns-else-is_acceptable : goal.returns-else-is_acceptable
 returns-else-is_acceptable c = let a = c.args in

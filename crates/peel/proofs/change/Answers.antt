@@ -7,25 +7,29 @@ pub loop-i-init : goal.loop-i-init
 loop-i-init c = (changing_start _ _ _, changing_start _ _ _)
 
 pub offset_bounds-narrow-p : goal.offset_bounds-narrow-p
-offset_bounds-narrow-p c = omega (arith, changing_in _ c.args.cells.now _ c.loop-i.i c.loop-i.narrow (omega arith) c.requires.0 c.loop-i.invariant.0)
+offset_bounds-narrow-p c =
+    omega (arith, changing_in _ c.args.cells.now _ c.loop-i.i c.loop-i.narrow (omega arith) c.requires.0 c.loop-i.invariant.0)
 
 pub bounds-narrow-p : goal.bounds-narrow-p
 bounds-narrow-p c = changing_in _ c.args.cells.now _ c.loop-i.i c.loop-i.narrow (omega arith) c.requires.0 c.loop-i.invariant.0
 
 pub offset_bounds-narrow-p-in-loop-i : goal.offset_bounds-narrow-p-in-loop-i
-offset_bounds-narrow-p-in-loop-i c = omega (arith, changing_in _ c.args.cells.now _ c.loop-i.i c.loop-i.narrow (omega arith) c.requires.0 c.loop-i.invariant.0)
+offset_bounds-narrow-p-in-loop-i c =
+    omega (arith, changing_in _ c.args.cells.now _ c.loop-i.i c.loop-i.narrow (omega arith) c.requires.0 c.loop-i.invariant.0)
 
 pub bounds-narrow-p-in-loop-i : goal.bounds-narrow-p-in-loop-i
 bounds-narrow-p-in-loop-i c = changing_in _ c.args.cells.now _ c.loop-i.i c.loop-i.narrow (omega arith) c.requires.0 c.loop-i.invariant.0
 
 pub offset_bounds-wide-p : goal.offset_bounds-wide-p
-offset_bounds-wide-p c = omega (arith, changing_in _ c.args.cells.now _ c.loop-i.i c.loop-i.wide (omega arith) c.requires.1 c.loop-i.invariant.1)
+offset_bounds-wide-p c =
+    omega (arith, changing_in _ c.args.cells.now _ c.loop-i.i c.loop-i.wide (omega arith) c.requires.1 c.loop-i.invariant.1)
 
 pub bounds-wide-p : goal.bounds-wide-p
 bounds-wide-p c = changing_in _ c.args.cells.now _ c.loop-i.i c.loop-i.wide (omega arith) c.requires.1 c.loop-i.invariant.1
 
 pub offset_bounds-wide-p-in-loop-i : goal.offset_bounds-wide-p-in-loop-i
-offset_bounds-wide-p-in-loop-i c = omega (arith, changing_in _ c.args.cells.now _ c.loop-i.i c.loop-i.wide (omega arith) c.requires.1 c.loop-i.invariant.1)
+offset_bounds-wide-p-in-loop-i c =
+    omega (arith, changing_in _ c.args.cells.now _ c.loop-i.i c.loop-i.wide (omega arith) c.requires.1 c.loop-i.invariant.1)
 
 pub bounds-wide-p-in-loop-i : goal.bounds-wide-p-in-loop-i
 bounds-wide-p-in-loop-i c = changing_in _ c.args.cells.now _ c.loop-i.i c.loop-i.wide (omega arith) c.requires.1 c.loop-i.invariant.1

@@ -21,8 +21,11 @@ bounds-cells-p c = let s = c in
 
 pub loop-i-preserved : goal.loop-i-preserved
 loop-i-preserved c = let s = c in
-    let l = c.loop-i in
-    (omega arith, simp length-set l.invariant.1, fill_turn _ s.args.g.cells s.args.wide.now s.args.narrow.now l.cells _ l.i _ (omega arith) c.xor_cells-x.ensures l.invariant.2)
+    let l = c.loop-i in (
+      omega arith,
+      simp length-set l.invariant.1,
+      fill_turn _ s.args.g.cells s.args.wide.now s.args.narrow.now l.cells _ l.i _ (omega arith) c.xor_cells-x.ensures l.invariant.2,
+    )
 
 pub returns : goal.returns
 returns c = let s = c in

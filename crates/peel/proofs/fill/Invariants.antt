@@ -7,7 +7,8 @@ use Rattle.peel.proofs.fill.Given as goal
 
 abbrev pub invariant-loop-i : goal.invariant-loop-i
 invariant-loop-i l = (l.i ≤ l.n) × (length l.cells ≡ length l.initial.cells)
-    × (fill (positions_of l.g.segment l.g.count) (peels_in l.g.cells l.i l.wide l.narrow) l.cells ≡ fill (positions_of l.g.segment l.g.count) (peels_in l.g.cells l.n l.wide l.narrow) l.initial.cells)
+    × (fill (positions_of l.g.segment l.g.count) (peels_in l.g.cells l.i l.wide l.narrow) l.cells
+    ≡ fill (positions_of l.g.segment l.g.count) (peels_in l.g.cells l.n l.wide l.narrow) l.initial.cells)
 
 abbrev pub decreases-loop-i : goal.decreases-loop-i
 decreases-loop-i l = l.i

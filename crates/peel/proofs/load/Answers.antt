@@ -11,7 +11,8 @@ use Rattle.peel.proofs.load.Goals as goal
 pub loop-i-init : goal.loop-i-init
 loop-i-init c = let a = c.args in
     let hs : List ℕ = mixed a.g.seed a.hashes.now in
-    let e : drop (length a.hashes.now) hs ≡ [] = drop_of_length-le hs {i = length a.hashes.now} (omega (arith, length-map a.hashes.now (graph_hash a.g.seed))) in
+    let e : drop (length a.hashes.now) hs ≡ [] = drop_of_length-le hs {i = length a.hashes.now}
+    (omega (arith, length-map a.hashes.now (graph_hash a.g.seed))) in
     (omega arith, refl, refl, rw e c.requires.2)
 
 pub positions-four-requires : goal.positions-four-requires
@@ -34,8 +35,10 @@ loop-i-preserved c = let s = c in
       omega arith,
       search rules,
       search rules,
-      tables_load _ a.g.cells (mixed a.g.seed a.hashes.now) _ _ _ _ _ _ l.i (omega arith) (omega arith) (k ∙ sym (map_at (graph_hash a.g.seed) a.hashes.now (l.i - 1) (omega arith)))
-          c.positions-four.ensures (graph_placed a.g s.requires.0 _ _ _ k) (omega arith) l.invariant.3 c.change.ensures.0 c.change.ensures.1,
+      tables_load _ a.g.cells (mixed a.g.seed a.hashes.now) _ _ _ _ _ _ l.i (omega arith) (omega arith)
+          (k ∙ sym (map_at (graph_hash a.g.seed) a.hashes.now (l.i - 1) (omega arith)))
+          c.positions-four.ensures (graph_placed a.g s.requires.0 _ _ _ k) (omega arith) l.invariant.3 c.change.ensures.0
+          c.change.ensures.1,
     )
 
 pub returns : goal.returns

@@ -33,7 +33,8 @@ pub load-requires : goal.load-requires
 load-requires c = let s = c in (
   s.requires.0,
   s.requires.1,
-  tables_none _ _ _ _ (search rules) (search rules) (cleared _ s.args.narrow.now _ c.clear_u32.ensures (search rules)) (cleared _ s.args.wide.now _ c.clear_u64.ensures (search rules)),
+  tables_none _ _ _ _ (search rules) (search rules) (cleared _ s.args.narrow.now _ c.clear_u32.ensures (search rules))
+      (cleared _ s.args.wide.now _ c.clear_u64.ensures (search rules)),
 )
 
 pub queue_ones-top-requires : goal.queue_ones-top-requires
@@ -43,7 +44,8 @@ pub peel_all-requires : goal.peel_all-requires
 peel_all-requires c = let s = c in
     let w : length c.load.new.wide ≡ length s.args.wide.now = search rules in
     let n : length c.load.new.narrow ≡ length s.args.narrow.now = search rules in
-    let R = ready s.args.g s.args.hashes.now _ _ _ _ s.requires.0 c.load.ensures c.queue_ones-top.ensures (search rules) (omega arith) (omega arith) in
+    let R = ready s.args.g s.args.hashes.now _ _ _ _ s.requires.0 c.load.ensures c.queue_ones-top.ensures (search rules) (omega arith)
+    (omega arith) in
     record { graph_whole = s.requires.0; by_index = (mixed s.args.g.seed s.args.hashes.now, R) }
 
 pub returns : goal.returns
@@ -51,5 +53,6 @@ returns c = let s = c in
     let a = s.args in
     let w : length c.load.new.wide ≡ length s.args.wide.now = search rules in
     let n : length c.load.new.narrow ≡ length s.args.narrow.now = search rules in
-    let R = ready s.args.g s.args.hashes.now _ _ _ _ s.requires.0 c.load.ensures c.queue_ones-top.ensures (search rules) (omega arith) (omega arith) in
+    let R = ready s.args.g s.args.hashes.now _ _ _ _ s.requires.0 c.load.ensures c.queue_ones-top.ensures (search rules) (omega arith)
+    (omega arith) in
     c.peel_all.ensures (mixed a.g.seed a.hashes.now) R

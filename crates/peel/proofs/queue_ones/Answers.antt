@@ -32,8 +32,18 @@ loop-p-preserved c = let l = c.loop-p in
     let top : l.top < g.args.c = omega arith in
     let room : g.args.c + g.args.c ≤ length l.narrow = omega (arith, l.invariant.2.size) in
     elim c.if-narrow-p-eq1.branch [
-      | then-narrow-p-eq1 w ↦ (omega arith, omega (arith, w.top-is), noting_turn _ _ _ _ l.top _ l.p _ (rising_next l.p g.args.c h) h l.invariant.2 _ _ (length-set l.narrow _ _) (queued_stays _ l.top l.p _ l.narrow top room h w.if-narrow-p-eq1.true w.top-is))
-      | else-narrow-p-eq1 w ↦ (omega arith, omega (arith, w.top-is), noting_turn _ _ _ _ l.top _ l.p _ (rising_next l.p g.args.c h) h l.invariant.2 _ _ (length-set l.narrow _ _) (queued_goes _ l.top l.p _ l.narrow top room h w.if-narrow-p-eq1.false w.top-is))
+      | then-narrow-p-eq1 w ↦ (
+        omega arith,
+        omega (arith, w.top-is),
+        noting_turn _ _ _ _ l.top _ l.p _ (rising_next l.p g.args.c h) h l.invariant.2 _ _ (length-set l.narrow _ _)
+            (queued_stays _ l.top l.p _ l.narrow top room h w.if-narrow-p-eq1.true w.top-is),
+      )
+      | else-narrow-p-eq1 w ↦ (
+        omega arith,
+        omega (arith, w.top-is),
+        noting_turn _ _ _ _ l.top _ l.p _ (rising_next l.p g.args.c h) h l.invariant.2 _ _ (length-set l.narrow _ _)
+            (queued_goes _ l.top l.p _ l.narrow top room h w.if-narrow-p-eq1.false w.top-is),
+      )
     ]
 
 pub shape_of-narrow : goal.shape_of-narrow

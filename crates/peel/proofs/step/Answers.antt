@@ -59,38 +59,40 @@ pub bounds-wide-p : goal.bounds-wide-p
 bounds-wide-p c = (cell_in _ _ _ _ _ _ _ _ c.if-top-eq0.false c.requires.by_index.2).1
 
 pub overflow_add-wide : goal.overflow_add-wide
-overflow_add-wide c = omega (arith, (stack_in _ _ _ _ _ _ _ _ c.if-top-eq0.false c.requires.by_index.2 c.if-narrow-p-ne1.false).0)
+overflow_add-wide c = omega (arith, (stack_in _ _ _ _ _ _ _ _ c.if-top-eq0.false c.requires.by_index.2 (omega arith)).0)
 
 pub offset_bounds-wide-c : goal.offset_bounds-wide-c
-offset_bounds-wide-c c = omega (arith, (stack_in _ _ _ _ _ _ _ _ c.if-top-eq0.false c.requires.by_index.2 c.if-narrow-p-ne1.false).0)
+offset_bounds-wide-c c = omega (arith, (stack_in _ _ _ _ _ _ _ _ c.if-top-eq0.false c.requires.by_index.2 (omega arith)).0)
 
 pub bounds-wide-c : goal.bounds-wide-c
-bounds-wide-c c = (stack_in _ _ _ _ _ _ _ _ c.if-top-eq0.false c.requires.by_index.2 c.if-narrow-p-ne1.false).0
+bounds-wide-c c = (stack_in _ _ _ _ _ _ _ _ c.if-top-eq0.false c.requires.by_index.2 (omega arith)).0
 
 pub overflow_add-narrow : goal.overflow_add-narrow
-overflow_add-narrow c = omega (arith, (stack_in _ _ _ _ _ _ _ _ c.if-top-eq0.false c.requires.by_index.2 c.if-narrow-p-ne1.false).1)
+overflow_add-narrow c = omega (arith, (stack_in _ _ _ _ _ _ _ _ c.if-top-eq0.false c.requires.by_index.2 (omega arith)).1)
 
 pub overflow_add-narrow-2 : goal.overflow_add-narrow-2
-overflow_add-narrow-2 c = omega (arith, (stack_in _ _ _ _ _ _ _ _ c.if-top-eq0.false c.requires.by_index.2 c.if-narrow-p-ne1.false).1)
+overflow_add-narrow-2 c = omega (arith, (stack_in _ _ _ _ _ _ _ _ c.if-top-eq0.false c.requires.by_index.2 (omega arith)).1)
 
 pub offset_bounds-narrow-c-2 : goal.offset_bounds-narrow-c-2
-offset_bounds-narrow-c-2 c = omega (arith, (stack_in _ _ _ _ _ _ _ _ c.if-top-eq0.false c.requires.by_index.2 c.if-narrow-p-ne1.false).1)
+offset_bounds-narrow-c-2 c = omega (arith, (stack_in _ _ _ _ _ _ _ _ c.if-top-eq0.false c.requires.by_index.2 (omega arith)).1)
 
 pub bounds-narrow-c-2 : goal.bounds-narrow-c-2
-bounds-narrow-c-2 c = (stack_in _ _ _ _ _ _ _ _ c.if-top-eq0.false c.requires.by_index.2 c.if-narrow-p-ne1.false).1
+bounds-narrow-c-2 c = (stack_in _ _ _ _ _ _ _ _ c.if-top-eq0.false c.requires.by_index.2 (omega arith)).1
 
 pub positions-four-requires : goal.positions-four-requires
 positions-four-requires c = c.requires.graph_whole.usable
 
 pub change-requires : goal.change-requires
 change-requires c = let R = given _ _ _ _ _ _ _ _ c.if-top-eq0.false c.requires.by_index.2 in
-    let u = cells_under _ _ _ _ _ _ _ _ R c.if-narrow-p-ne1.false _ c.positions-four.ensures in
-    ((λ v z. u v (let z' = rw length-set at z in omega (arith, R.narrow_room))), λ v z. u v (let z' = rw length-set at z in omega (arith, R.wide_room)))
+    let u = cells_under _ _ _ _ _ _ _ _ R (omega arith) _ c.positions-four.ensures in (
+      (λ v z. u v (let z' = rw length-set at z in omega (arith, R.narrow_room))),
+      λ v z. u v (let z' = rw length-set at z in omega (arith, R.wide_room)),
+    )
 
 pub queue_cells-u-requires : goal.queue_cells-u-requires
 queue_cells-u-requires c = let g = c in
     let R = given _ _ _ _ _ _ _ _ c.if-top-eq0.false c.requires.by_index.2 in
-    let e = c.if-narrow-p-ne1.false in
+    let e : get_or c.args.narrow.now (get_or c.args.narrow.now (c.args.g.cells + (c.args.at.top - 1)) 0) 0 ≡ 1 = omega arith in
     let p = c.positions-four.ensures in
     let small : (v : ℕ) → get_or c.args.narrow.now v 0 < 2 ^ 32 = search rules in
     let k = c.change.ensures in (
@@ -101,14 +103,14 @@ queue_cells-u-requires c = let g = c in
     )
 
 pub overflow_add-result : goal.overflow_add-result
-overflow_add-result c = omega (arith, (stack_in _ _ _ _ _ _ _ _ c.if-top-eq0.false c.requires.by_index.2 c.if-narrow-p-ne1.false).0)
+overflow_add-result c = omega (arith, (stack_in _ _ _ _ _ _ _ _ c.if-top-eq0.false c.requires.by_index.2 (omega arith)).0)
 
 pub shape_of-wide : goal.shape_of-wide
 shape_of-wide c =
     let R = given _ _ _ _ _ _ _ _ c.if-top-eq0.false c.requires.by_index.2 in
     let small : (v : ℕ) → get_or c.args.narrow.now v 0 < 2 ^ 32 = search rules in
     let k = c.change.ensures in
-    wide_length _ _ _ _ _ _ _ _ R c.if-narrow-p-ne1.false _ c.positions-four.ensures small _ _ k.0 k.1
+    wide_length _ _ _ _ _ _ _ _ R (omega arith) _ c.positions-four.ensures small _ _ k.0 k.1
 
 pub shape_of-narrow : goal.shape_of-narrow
 shape_of-narrow c =
@@ -116,11 +118,12 @@ shape_of-narrow c =
     let small : (v : ℕ) → get_or c.args.narrow.now v 0 < 2 ^ 32 = search rules in
     let k = c.change.ensures in
     let q : length c.queue_cells-u.new.narrow ≡ length c.change.new.narrow = search rules in
-    q ∙ narrow_length _ _ _ _ _ _ _ _ R c.if-narrow-p-ne1.false _ c.positions-four.ensures small _ _ k.0 k.1
+    q ∙ narrow_length _ _ _ _ _ _ _ _ R (omega arith) _ c.positions-four.ensures small _ _ k.0 k.1
 
 pub returns : goal.returns
 returns c = λ hs s R.
     let g = c in
     let small : (v : ℕ) → get_or c.args.narrow.now v 0 < 2 ^ 32 = search rules in
     let k = c.change.ensures in
-    ready_peel _ _ hs s _ _ _ _ (ready_suc g.args.at.top c.if-top-eq0.false R) c.if-narrow-p-ne1.false _ c.positions-four.ensures small _ _ k.0 k.1 _ _ (search rules) c.queue_cells-u.ensures
+    ready_peel _ _ hs s _ _ _ _ (ready_suc g.args.at.top c.if-top-eq0.false R) (omega arith) _ c.positions-four.ensures small _ _ k.0 k.1
+    _ _ (search rules) c.queue_cells-u.ensures

@@ -13,7 +13,11 @@ pub returns-then-not-contains : goal.returns-then-not-contains
 returns-then-not-contains c = λ e.
     let a = c.args in
     let i : ℕ = c.loop-i.i in
-    record { hash = get_or a.hashes.now i 0; given = occurs_at a.hashes.now i c.loop-i-test.true; absent = sym c.contains.ensures ∙ c.if-not-contains.true }
+    record {
+      hash = get_or a.hashes.now i 0;
+      given = occurs_at a.hashes.now i c.loop-i-test.true;
+      absent = sym c.contains.ensures ∙ c.if-not-contains.true;
+    }
 
 pub returns : goal.returns
 returns c = λ e. let z : ◌≡◌ {A = ℕ} 0 1 = cc in absurd (omega arith)

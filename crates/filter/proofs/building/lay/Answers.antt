@@ -11,8 +11,11 @@ put_positive-requires c = omega (arith, c.requires.out_room)
 
 pub put_header-requires : goal.put_header-requires
 put_header-requires c = let a = c.args in
-    let m = c.make-built in
-    (omega (arith, c.requires.out_room), (lay_usable a.hashes.now a.out.now m.new.out m.result m.ensures c.in-Fuse.s c.in-Fuse.is (omega arith)).small)
+    let m = c.make-built in (
+      omega (arith, c.requires.out_room),
+      (lay_usable a.hashes.now a.out.now m.new.out m.result m.ensures c.in-Fuse.s c.in-Fuse.is
+          (omega arith)).small,
+    )
 
 pub returns-in-Positive : goal.returns-in-Positive
 returns-in-Positive c = let a = c.args in
@@ -23,7 +26,8 @@ pub returns-in-Fuse : goal.returns-in-Fuse
 returns-in-Fuse c = let s = c in
     let a = s.args in
     let m = c.make-built in
-    lay_fuse a.hashes.now a.out.now m.new.out m.result m.ensures c.in-Fuse.s c.in-Fuse.is (omega arith) s.requires.out_room _ c.put_header.ensures
+    lay_fuse a.hashes.now a.out.now m.new.out m.result m.ensures c.in-Fuse.s c.in-Fuse.is (omega arith) s.requires.out_room _
+    c.put_header.ensures
 
 pub returns-in-Refused : goal.returns-in-Refused
 returns-in-Refused c = let a = c.args in

@@ -20,7 +20,7 @@ overflow_add-c c = omega (arith, few_cells c.args.n _ c.cells_for-c.ensures (ome
 
 pub returns-then-wide-c : goal.returns-then-wide-c
 returns-then-wide-c c = let a = c.args in
-    refuse_first a.n a.wide a.narrow a.out _ c.cells_for-c.ensures c.if-n-gt-MAX_HASHES.false (here (lt-ltb _ _ c.if-wide-c.true) refl)
+    refuse_first a.n a.wide a.narrow a.out _ c.cells_for-c.ensures (omega arith) (here (lt-ltb _ _ c.if-wide-c.true) refl)
 
 pub overflow_mul-c : goal.overflow_mul-c
 overflow_mul-c c = omega (arith, few_cells c.args.n _ c.cells_for-c.ensures (omega arith))
@@ -30,17 +30,19 @@ overflow_add-c-2 c = omega (arith, few_cells c.args.n _ c.cells_for-c.ensures (o
 
 pub returns-then-narrow-c : goal.returns-then-narrow-c
 returns-then-narrow-c c = let a = c.args in
-    refuse_first a.n a.wide a.narrow a.out _ c.cells_for-c.ensures c.if-n-gt-MAX_HASHES.false (later (le-ltb _ _ c.if-wide-c.false) (here (lt-ltb _ _ c.if-narrow-c.true) refl))
+    refuse_first a.n a.wide a.narrow a.out _ c.cells_for-c.ensures (omega arith)
+    (later (le-ltb _ _ c.if-wide-c.false) (here (lt-ltb _ _ c.if-narrow-c.true) refl))
 
 pub overflow_add-c-3 : goal.overflow_add-c-3
 overflow_add-c-3 c = omega (arith, few_cells c.args.n _ c.cells_for-c.ensures (omega arith))
 
 pub returns-then-out-c : goal.returns-then-out-c
 returns-then-out-c c = let a = c.args in
-    refuse_first a.n a.wide a.narrow a.out _ c.cells_for-c.ensures c.if-n-gt-MAX_HASHES.false
+    refuse_first a.n a.wide a.narrow a.out _ c.cells_for-c.ensures (omega arith)
     (later (le-ltb _ _ c.if-wide-c.false) (later (le-ltb _ _ c.if-narrow-c.false) (here (lt-ltb _ _ c.if-out-c.true) refl)))
 
 pub returns : goal.returns
 returns c = let a = c.args in
-    refuse_none a.n a.wide a.narrow a.out _ c.cells_for-c.ensures c.if-n-gt-MAX_HASHES.false
-    (none_more (le-ltb _ _ c.if-wide-c.false) (none_more (le-ltb _ _ c.if-narrow-c.false) (none_more (le-ltb _ _ c.if-out-c.false) none_here)))
+    refuse_none a.n a.wide a.narrow a.out _ c.cells_for-c.ensures (omega arith)
+    (none_more (le-ltb _ _ c.if-wide-c.false)
+    (none_more (le-ltb _ _ c.if-narrow-c.false) (none_more (le-ltb _ _ c.if-out-c.false) none_here)))

@@ -6,7 +6,8 @@ use Rattle.filter.proofs.BuildingLaws.{Searching}
 use Rattle.filter.proofs.building.search.Given as goal
 
 abbrev pub invariant-loop-i : goal.invariant-loop-i
-invariant-loop-i l = Searching l.s l.hashes l.i × (length l.wide ≡ length l.initial.wide) × (length l.narrow ≡ length l.initial.narrow) × (length l.cells ≡ length l.initial.cells) × (l.cells ≡ l.initial.cells)
+invariant-loop-i l = Searching l.s l.hashes l.i × (length l.wide ≡ length l.initial.wide) × (length l.narrow ≡ length l.initial.narrow)
+    × (length l.cells ≡ length l.initial.cells) × (l.cells ≡ l.initial.cells)
 
 abbrev pub decreases-loop-i : goal.decreases-loop-i
 decreases-loop-i l = 100 - l.i
