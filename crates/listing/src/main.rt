@@ -7,7 +7,6 @@ ghost use Rattle.std.specs.Prelude.{length, ◌≡◌};
 ghost use Rattle.io.specs.Counts.{IsPrefixLen};
 
 use lines::Listed;
-use std::io;
 use std::io::{Eprint, Print, Read, Stdin};
 
 // What was read: how many bytes, and whether a read failed before the input's end.
@@ -53,28 +52,29 @@ fn read_input(from: &mut Stdin, buf: &mut [u8]) -> Input
 }
 
 // Lists an input and prints the text. A buffer that is too short for it (there is none here) prints nothing.
-fn print<R: Runtime>(rt: &R, input: &[u8], out: &mut [u8]) -> io::Result<()> {
+fn print<R: Print + Eprint>(rt: &R, input: &[u8], out: &mut [u8]) {
     let answer = lines::listing(input, out);
     match answer {
         Listed::Text(size) => {
             if Print::write_all(rt, &out[..size]).is_err() {
-                return eprintln!(rt; "listing: standard output took no more: the text is cut");
+                let _ = eprintln!(rt; "listing: standard output took no more: the text is cut");
             }
-            Ok(())
         }
-        Listed::Refused(_) => Ok(()),
+        Listed::Refused(_) => {}
     }
 }
 
-fn main(rt: HostRuntime) -> io::Result<()> {
+fn main(rt: HostRuntime) {
     let mut buf = input_buffer();
-    let input = read_input(&mut rt.stdin(), &mut buf);
+    let mut from = rt.stdin();
+    let input = read_input(&mut from, &mut buf);
     let size = input.size;
     if input.failed {
-        return eprintln!(rt;
+        let _ = eprintln!(rt;
             "listing: standard input could not be read to its end: nothing is listed"
         );
+        return;
     }
     let mut out = text_buffer();
-    print(&rt, &buf[..size], &mut out)
+    print(&rt, &buf[..size], &mut out);
 }
