@@ -88,6 +88,7 @@ sort_refuses_nothing P = P.number
 
 -- add itself never answers 28
 first_below : {m n : ℕ} {cs : List Cause} → Each (λ c. c.number < m) cs → First n cs → n < m
+first_below {m = m} {n = n} each_none x = elim x [ ]
 first_below (each_more p ps) (here h e) = omega arith
 first_below (each_more p ps) (later h f) = first_below ps f
 
