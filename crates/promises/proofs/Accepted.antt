@@ -12,7 +12,7 @@ use Rattle.promises.specs.Accepted.{AcceptedBody, OnAccepted}
 
 accepted_body : (body : List ℕ) (size : ℕ) → validate_of body size ≡ Accepted → AllBytes body → AcceptedBody body size
 accepted_body body size ok all = record {
-  one_table = holds_table body size ok all;
+  one_table_is = holds_table body size ok all;
   slot_key = slot_owner body size ok;
   key_slot_is = owner_slot body size ok;
   asking = λ key limit. record {

@@ -1,5 +1,4 @@
 -- The figures at the edges of document 01, computed. Assumes nothing.
-use Prim.Native.Nat.{◌-◌}
 use mathlib.Core.Path.{refl}
 use Rattle.words.specs.Field.{spelled, le}
 use Rattle.records.specs.Places.{entry_place}
