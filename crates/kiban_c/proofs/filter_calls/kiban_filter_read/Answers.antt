@@ -17,15 +17,15 @@ pub returns-then-answer-lt6 : goal.returns-then-answer-lt6
 returns-then-answer-lt6 c = read_refused c.if-answer-lt6.true
 
 pub returns-in-Positive : goal.returns-in-Positive
-returns-in-Positive c = read_made {r = Positive} c.if-answer-lt6.false c.in-Positive.ensures refl c.put_words.ensures
+returns-in-Positive c = read_made {r = Positive} (omega arith) c.in-Positive.ensures refl c.put_words.ensures
 
 pub returns-in-Fuse : goal.returns-in-Fuse
 returns-in-Fuse c = let a = c.args in
     let z = c.in-Fuse in
     let s = z.s in
     let cells = (fuse_cells a.bytes.now s (sym z.ensures)).1 in
-    read_made {r = Fuse s} c.if-answer-lt6.false z.ensures refl
+    read_made {r = Fuse s} (omega arith) z.ensures refl
     (c.put_words-in-Fuse.ensures ∙ ap (λ (n : ℕ). splice a.answer.now 0 (1 ∷ s.keys ∷ s.seed ∷ s.segment ∷ s.count ∷ n ∷ [])) cells)
 
 pub returns-in-Refused : goal.returns-in-Refused
-returns-in-Refused c = read_made {r = Refused} c.if-answer-lt6.false c.in-Refused.ensures refl (sym (splice_none _ 0))
+returns-in-Refused c = read_made {r = Refused} (omega arith) c.in-Refused.ensures refl (sym (splice_none _ 0))
