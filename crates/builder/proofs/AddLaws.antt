@@ -1,7 +1,8 @@
 -- What the tests of add leave: the facts of a call that no cause refuses, and back; its answer and its buffer from the refusal.
 -- Assumes nothing.
+use Rattle.std.specs.Prelude.{Ok, Err}
 use Prim.Native.Nat.{ℕ, ◌+◌, ◌≤◌, ◌<◌}
-use mathlib.Core.Path.{◌≡◌, ap}
+use mathlib.Core.Path.{◌≡◌, sym, ap}
 use mathlib.Core.Bool.{Bool, true, false, cond, not}
 use mathlib.Core.List.{List}
 use native.Mathlib.Omega.{arith}
@@ -11,20 +12,21 @@ use lib.ListN.{length}
 use Rattle.laws.specs.Refusals.{First, later, None, none_here, none_more, Numbered, numbered_none, numbered_more}
 use Rattle.laws.proofs.RefusalLaws.{none_only}
 use Rattle.numbers.specs.Limits.{most_key_bytes, most_value_bytes, most_keys, most_versions}
-use Rattle.words.specs.declared.part.Order.{Order}
+use Rattle.numbers.specs.Numbers.{number}
+use Rattle.numbers.specs.declared.Refusal.{Refusal}
+use Rattle.numbers.proofs.NumberLaws.{answered_refusal, number_nonzero}
+use Rattle.std.specs.declared.cmp.Ordering.{Ordering}
 use Rattle.words.specs.Part.{order_of, same_as}
 use Rattle.records.specs.Places.{version_count, key_at}
-use Rattle.records.specs.Rules.{is_less}
+use Rattle.std.specs.Ordering.{is_lt}
 use Rattle.builder.specs.declared.PointBuilder.{PointBuilder}
-use Rattle.builder.specs.declared.Added.{Added}
-use Rattle.builder.specs.declared.Added.TheVariants.{Refused}
 use Rattle.builder.specs.State.{fits, last_of, room_of}
 use Rattle.builder.proofs.StateLaws.{fits_known, fits_inside}
 use Rattle.builder.specs.Add.{Call, rises_after, new_causes, continued_causes, appending_causes, taking_causes, add_causes, add_refusal, Sized, NewPasses, ContinuedPasses, next_state, appended, add_of, buffer_after_add, AddPost}
 use Rattle.builder.specs.Inner.Append.{AppendPost}
 
 -- a key beside the last one
-pub rises_known : (s : PointBuilder) (buffer key : List ℕ) → (s.keys ≡ 0 → ⊥) → (o : Order) → order_of (key_at buffer s.head) key ≡ o → is_less o ≡ rises_after s (last_of s buffer) key
+pub rises_known : (s : PointBuilder) (buffer key : List ℕ) → (s.keys ≡ 0 → ⊥) → (o : Ordering) → order_of (key_at buffer s.head) key ≡ o → is_lt o ≡ rises_after s (last_of s buffer) key
 unfolding rises_after last_of
 rises_known s buffer key ne o e = rw (ne_eqb s.keys 0 ne, e)
 
@@ -112,10 +114,10 @@ module _ {s : PointBuilder} {buffer : List ℕ} {call : Call} where
 
   -- ---- the answer and the buffer, from the refusal
 
-  pub add_stopped : {n : ℕ} → n ≡ add_refusal s buffer call → (n ≡ 0 → ⊥) → AddPost s buffer call (Refused n) buffer
+  pub add_stopped : {r : Refusal} → number r ≡ add_refusal s buffer call → AddPost s buffer call (Err r) buffer
   unfolding add_of buffer_after_add
-  add_stopped {n} e ne = record { answer = rw (← e, ne_eqb n 0 ne); buffer = rw (← e, ne_eqb n 0 ne) }
+  add_stopped {r} e = record { answer = sym (answered_refusal r _ _ e); buffer = rw (← e, ne_eqb _ 0 (number_nonzero r)) }
 
-  pub add_appended : {r : Added} {after : List ℕ} → add_refusal s buffer call ≡ 0 → AppendPost (next_state s call) (appended s buffer call) r after → AddPost s buffer call r after
+  pub add_appended : {r : PointBuilder × ℕ} {after : List ℕ} → add_refusal s buffer call ≡ 0 → AppendPost (next_state s call) (appended s buffer call) r after → AddPost s buffer call (Ok r) after
   unfolding add_of buffer_after_add
-  add_appended e p = record { answer = rw e p.answer; buffer = rw e p.left }
+  add_appended e p = record { answer = rw e (ap Ok p.answer); buffer = rw e p.left }

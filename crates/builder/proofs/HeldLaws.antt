@@ -1,4 +1,5 @@
 -- The state and the buffer that hold a table, read back from the buffer. Assumes nothing.
+use Rattle.std.specs.Prelude.{None}
 use Prim.Native.Nat.{ℕ, ◌+◌, ◌-◌, ◌≤◌}
 use mathlib.Core.Path.{◌≡◌, sym, ap, ◌∙◌}
 use mathlib.Core.List.{List, [], ◌∷◌, ◌++◌, append_assoc}
@@ -7,7 +8,6 @@ use lib.ListN.{length, take, drop, length-append, take-append-drop}
 use lib.Seq.{length-take-le}
 use Rattle.numbers.specs.Limits.{most_keys}
 use Rattle.records.specs.declared.Record.{Record}
-use Rattle.records.specs.declared.DataLength.TheVariants.{Untested}
 use Rattle.records.specs.Model.{Entry, version_bytes, entry_bytes, table_bytes}
 use Rattle.records.specs.Places.{key_length, version_count, key_at, next_entry, sequence_at}
 use Rattle.records.specs.Tables.{EntryFits, EntryRules, TableRules}
@@ -27,14 +27,14 @@ pub record Standing (s : PointBuilder) (buffer : List ℕ) (front : List Entry) 
   pub headed : s.head ≡ length (table_bytes front)
   pub counted : s.keys ≡ length front + 1
   pub few : s.keys ≤ most_keys
-  pub rules : TableRules Untested (ending front key before last)
+  pub rules : TableRules None (ending front key before last)
 
 module _ (s : PointBuilder) (buffer : List ℕ) (front : List Entry) (key : List ℕ) (before : List Record) (last : Record) (st : Standing s buffer front key before last) where
-  pub entry_rules : EntryRules Untested (entry key (before ++ (last ∷ [])))
+  pub entry_rules : EntryRules None (entry key (before ++ (last ∷ [])))
   entry_rules = (last_each front (entry key (before ++ (last ∷ []))) st.rules.entries).1
 
   holds : EntryFits (entry key (before ++ (last ∷ [])))
-  holds = entry_fits Untested (entry key (before ++ (last ∷ []))) entry_rules
+  holds = entry_fits None (entry key (before ++ (last ∷ []))) entry_rules
 
   pub used_is : s.used ≡ length (table_bytes front) + length (entry_bytes (entry key (before ++ (last ∷ []))))
   used_is =

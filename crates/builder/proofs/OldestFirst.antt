@@ -1,6 +1,7 @@
 -- The error that started this project, a wash's versions added oldest first: to a taken list no call adds a record of the last key whose
 -- sequence is not below the last one's, as a new key or as a continued one; of whichever key a record that is added is, it is older than
 -- every one of that key in the list. Assumes nothing.
+use Rattle.std.specs.Prelude.{Err}
 use Prim.Native.Nat.{ℕ, ◌≤◌, ◌<◌}
 use mathlib.Core.Path.{◌≡◌, refl, sym, ap, ◌∙◌}
 use mathlib.Core.Bool.{Bool, true, false, not}
@@ -10,7 +11,9 @@ use Rattle.laws.specs.Each.{Each}
 use Rattle.laws.specs.Each.Each.{each_none}
 use Rattle.laws.specs.Refusals.{here}
 use Rattle.numbers.specs.Limits.{most_value_bytes}
-use Rattle.words.specs.declared.part.Order.TheVariants.{Less, Equal}
+use Rattle.numbers.specs.Numbers.{number_of}
+use Rattle.numbers.specs.declared.Refusal.TheVariants.{Order}
+use Rattle.std.specs.declared.cmp.Ordering.TheVariants.{Less, Equal}
 use Rattle.words.specs.Part.{order_of}
 use Rattle.words.proofs.Ordered.{same_equal, order_self, order_apart}
 use Rattle.records.specs.declared.Kind.TheVariants.{Tombstone}
@@ -18,12 +21,11 @@ use Rattle.records.specs.declared.Record.{Record}
 use Rattle.records.specs.Model.{Entry, records_of, Rises}
 use Rattle.records.proofs.ModelLaws.{rises_rest, rises_below, own_records}
 use Rattle.builder.specs.declared.PointBuilder.{PointBuilder}
-use Rattle.builder.specs.declared.Added.TheVariants as added
 use Rattle.builder.specs.State.{last_of}
-use Rattle.builder.specs.Add.{Call, rises_after, new_causes, add_refusal, Sized, record_of, new_entry, add_of, buffer_after_add, added_number}
+use Rattle.builder.specs.Add.{Call, rises_after, new_causes, add_refusal, Sized, record_of, new_entry, add_of, buffer_after_add}
 use Rattle.builder.specs.Taken.{entry, ending, TakenList}
 use Rattle.builder.proofs.AddLaws.{rises_known, sized_first, new_passed, continued_passed}
-use Rattle.builder.proofs.AnswerLaws.{refused_given, add_number}
+use Rattle.builder.proofs.AnswerLaws.{buffer_kept, add_number}
 use Rattle.builder.proofs.ListLaws.{last_each, member_last, falls_above, rises_on}
 use Rattle.builder.proofs.HeldLaws.{entry_rules, last_read}
 use Rattle.builder.proofs.StepLaws.{valued_empty}
@@ -51,19 +53,19 @@ module _ {s : PointBuilder} {buffer : List ℕ} (front : List Entry) (before : L
         let e : (last_of s buffer).sequence ≡ last.sequence = ap (λ x. x.sequence) (taken_last front call.key before last t).1 in
         omega arith
 
-    cause_four : Sized s buffer call → (new_key : Bool) → call.new_key ≡ new_key → (add_of s buffer call ≡ added.Refused 4) × (buffer_after_add s buffer call ≡ buffer)
+    cause_four : Sized s buffer call → (new_key : Bool) → call.new_key ≡ new_key → (add_of s buffer call ≡ Err Order) × (buffer_after_add s buffer call ≡ buffer)
     unfolding new_causes
-    cause_four k true w = add_refuses s buffer call (sized_first k (rw w (here (ap not not_rising) refl)))
+    cause_four k true w = add_refuses s buffer call {n = 4} (sized_first k (rw w (here (ap not not_rising) refl)))
     cause_four k false w =
         let l = taken_last front call.key before last t in
         oldest_first_refused s buffer call k w l.0 (ap (λ x. x.key) l.1) (rw l.1 h)
 
     -- THEOREM: to a taken list, a record of the last key whose sequence is not below the last one's is never taken, and nothing changes
-    pub never_oldest_first : ((added_number (add_of s buffer call) ≡ 0) → ⊥) × (buffer_after_add s buffer call ≡ buffer)
-    never_oldest_first = let ne = some_cause call.new_key refl in (λ z. ne (sym (add_number _ _ _) ∙ z), (refused_given _ _ _ refl ne).1)
+    pub never_oldest_first : ((number_of (add_of s buffer call) ≡ 0) → ⊥) × (buffer_after_add s buffer call ≡ buffer)
+    never_oldest_first = let ne = some_cause call.new_key refl in (λ z. ne (sym (add_number _ _ _) ∙ z), buffer_kept _ _ _ ne)
 
     -- THEOREM: where no rule of sizes is broken (2, 3), it is refused with 4
-    pub oldest_first_four : call.size ≤ most_value_bytes → (call.kind ≡ Tombstone → call.size ≡ 0) → (add_of s buffer call ≡ added.Refused 4) × (buffer_after_add s buffer call ≡ buffer)
+    pub oldest_first_four : call.size ≤ most_value_bytes → (call.kind ≡ Tombstone → call.size ≡ 0) → (add_of s buffer call ≡ Err Order) × (buffer_after_add s buffer call ≡ buffer)
     oldest_first_four small empty =
         let f = taken_facts t in
         let e = (last_each front (entry call.key (before ++ (last ∷ []))) f.rules.entries).1 in
@@ -99,6 +101,6 @@ module _ (buffer : List ℕ) (call : Call) where
       rw own (falls_above before last call.sequence (entry_rules s buffer front lastKey before last st).falls below)
 
   -- THEOREM: a record that is added to a taken list is older than every record of its key in the list
-  pub added_older : {s : PointBuilder} {table : List Entry} → TakenList s buffer table → added_number (add_of s buffer call) ≡ 0
+  pub added_older : {s : PointBuilder} {table : List Entry} → TakenList s buffer table → number_of (add_of s buffer call) ≡ 0
       → Each (λ v. call.sequence < v.sequence) (records_of table call.key)
   added_older {s} {table} t z = older_than call.new_key refl s table (taken_held t) (sym (add_number _ _ _) ∙ z)

@@ -1,12 +1,14 @@
 -- What a state that fits its buffer says, and back. Assumes nothing.
 use Prim.Native.Nat.{ℕ, ◌+◌, ◌≤◌}
 use mathlib.Core.Path.{◌≡◌, refl, sym, ◌∙◌}
-use mathlib.Core.Bool.{Bool, true, false, ◌&&◌, and-eq-true_iff}
+use mathlib.Core.Bool.{Bool, true, false, true≢false, ◌&&◌, and-eq-true_iff}
 use mathlib.Core.List.{List}
 use native.Mathlib.Omega.{arith}
 use borrow.Author.Tests.{leb-true, eqb-true, eqb-false, le-leb, eq-eqb, ne_eqb}
 use lib.Dec.{leb, eqb}
 use lib.ListN.{length}
+use Rattle.std.specs.Bool.{Decides}
+use Rattle.std.proofs.lemmas.Bool.Decides.{same_from_decides}
 use Rattle.numbers.specs.Limits.{most_key_bytes, most_keys}
 use Rattle.records.specs.Places.{key_length, version_count, next_entry}
 use Rattle.builder.specs.declared.PointBuilder.{PointBuilder}
@@ -54,12 +56,11 @@ module _ (s : PointBuilder) (buffer : List ℕ) where
         fits_some
         ∙ rw (le-leb s.keys most_keys f.few, le-leb s.used (length buffer) f.inside, le-leb (s.head + 8) s.used f.headed, le-leb (key_length buffer s.head) most_key_bytes f.short, le-leb 1 (version_count buffer s.head) f.versioned, eq-eqb (next_entry buffer s.head) s.used f.whole)
 
+    pub fits_decides : Decides (fits s buffer) (Fitting s buffer)
+    fits_decides = (fits_known, fits_given)
+
     pub fits_not : (Fitting s buffer → ⊥) → false ≡ fits s buffer
-    fits_not bad = go (fits s buffer) refl
-      where
-        go : (t : Bool) → fits s buffer ≡ t → false ≡ fits s buffer
-        go true e = absurd (bad (fits_known e))
-        go false e = sym e
+    fits_not bad = same_from_decides false _ ((λ e. absurd (true≢false (sym e))), (λ f. absurd (bad f))) fits_decides
 
 -- a state that fits lies in its buffer
 pub fits_inside : (s : PointBuilder) (buffer : List ℕ) → fits s buffer ≡ true → s.used ≤ length buffer

@@ -1,4 +1,5 @@
 -- A table stays held: by a new key, by a continued key, by a set offset. Assumes nothing.
+use Rattle.std.specs.Prelude.{None}
 use Prim.Native.Nat.{ℕ, ◌+◌, ◌-◌, ◌^◌, ◌≤◌, ◌<◌}
 use mathlib.Core.Path.{◌≡◌, refl, sym, ap, ◌∙◌}
 use mathlib.Core.Bool.{false}
@@ -16,7 +17,6 @@ use Rattle.words.proofs.Laws.{length_bytes_of, length_splice, take_splice_end}
 use Rattle.records.specs.declared.Kind.{Kind}
 use Rattle.records.specs.declared.Kind.TheVariants.{Put, Tombstone}
 use Rattle.records.specs.declared.Record.{Record}
-use Rattle.records.specs.declared.DataLength.TheVariants.{Untested}
 use Rattle.records.specs.Model.{Entry, kind_byte, version_bytes, entry_bytes, table_bytes, Rises, falls_one}
 use Rattle.records.specs.Places.{version_count}
 use Rattle.records.specs.Rules.{full_tombstone}
@@ -39,7 +39,7 @@ pub valued_empty : (kind : Kind) (size : ℕ) → (kind ≡ Tombstone → size �
 valued_empty Put size e = refl
 valued_empty Tombstone size e = rw (eq-eqb size 0 (e refl))
 
-pub record_rules : {s : PointBuilder} {buffer : List ℕ} {call : Call} → Sized s buffer call → call.sequence < 2 ^ 64 → RecordRules Untested (record_of call)
+pub record_rules : {s : PointBuilder} {buffer : List ℕ} {call : Call} → Sized s buffer call → call.sequence < 2 ^ 64 → RecordRules None (record_of call)
 record_rules {s} {buffer} {call} k q =
     record {
       fits = record { sequence_fits = q; length_fits = omega (arith, k.small); offset_fits = omega arith };
@@ -51,11 +51,11 @@ record_rules {s} {buffer} {call} k q =
 -- ---- a new key
 
 module _ (s : PointBuilder) (buffer key : List ℕ) (table : List Entry) (r : Record) where
-  new_rules : length key ≤ most_key_bytes → RecordRules Untested r → EntryRules Untested (new_entry key r)
+  new_rules : length key ≤ most_key_bytes → RecordRules None r → EntryRules None (new_entry key r)
   new_rules h k = record { small = h; some = omega arith; few = omega arith; falls = falls_one; versions = each_more k each_none }
 
   pub new_stands : take s.used buffer ≡ table_bytes table → s.used + (29 + length key) ≤ length buffer → s.keys ≡ length table → s.keys < most_keys
-      → length key ≤ most_key_bytes → RecordRules Untested r → Each (EntryRules Untested) table → Rises (table ++ (new_entry key r ∷ []))
+      → length key ≤ most_key_bytes → RecordRules None r → Each (EntryRules None) table → Rises (table ++ (new_entry key r ∷ []))
       → Standing (new_state s key) (new_buffer s buffer key r) table key [] r
   unfolding new_buffer
   new_stands b room counted few h k each rising =
@@ -77,15 +77,15 @@ module _ (s : PointBuilder) (buffer key : List ℕ) (table : List Entry) (r : Re
 
 module _ (s : PointBuilder) (buffer : List ℕ) (front : List Entry) (key : List ℕ) (before : List Record) (last : Record) (st : Standing s buffer front key before last) where
   -- the rules of the table with another last entry of the same key
-  table_rules : (vs : List Record) → EntryRules Untested (entry key vs) → TableRules Untested (front ++ (entry key vs ∷ []))
+  table_rules : (vs : List Record) → EntryRules None (entry key vs) → TableRules None (front ++ (entry key vs ∷ []))
   table_rules vs k =
       record {
         entries = each_last front (entry key vs) (last_each front (entry key (before ++ (last ∷ []))) st.rules.entries).0 k;
         rises = rises_last front (entry key (before ++ (last ∷ []))) (entry key vs) refl st.rules.rises;
       }
 
-  module _ (r : Record) (k : RecordRules Untested r) (older-still : r.sequence < last.sequence) (countable : length (before ++ (last ∷ [])) < most_versions) where
-    more_rules : EntryRules Untested (entry key ((before ++ (last ∷ [])) ++ (r ∷ [])))
+  module _ (r : Record) (k : RecordRules None r) (older-still : r.sequence < last.sequence) (countable : length (before ++ (last ∷ [])) < most_versions) where
+    more_rules : EntryRules None (entry key ((before ++ (last ∷ [])) ++ (r ∷ [])))
     more_rules =
         let e = entry_rules s buffer front key before last st in
         record {
@@ -139,7 +139,7 @@ module _ (s : PointBuilder) (buffer : List ℕ) (front : List Entry) (key : List
         })
 
   module _ (offset : ℕ) (h : offset < 2 ^ 64) where
-    set_rules : EntryRules Untested (entry key (before ++ (with_offset offset last ∷ [])))
+    set_rules : EntryRules None (entry key (before ++ (with_offset offset last ∷ [])))
     set_rules =
         let e = entry_rules s buffer front key before last st in
         let p = last_each before last e.versions in

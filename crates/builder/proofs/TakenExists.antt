@@ -1,4 +1,5 @@
 -- Every list that keeps the rules is taken, where its keys are few enough and the buffer is long enough. Assumes nothing.
+use Rattle.std.specs.Prelude.{None, Ok}
 use Prim.Native.Nat.{ℕ, ◌+◌, ◌-◌, ◌*◌, ◌^◌, ◌≤◌, ◌<◌}
 use mathlib.Core.Path.{◌≡◌, refl, sym, ap, ◌∙◌, subst}
 use mathlib.Core.Bool.{Bool, true, false, not}
@@ -9,19 +10,17 @@ use lib.Dec.{eqb}
 use lib.ListN.{length, length-append}
 use Rattle.laws.specs.Each.{Each}
 use Rattle.laws.specs.Each.Each.{each_none, each_more}
-use Rattle.laws.specs.Refusals.{None, none_here, none_more}
+use Rattle.laws.specs.Refusals.{None as Unrefused, none_here, none_more}
 use Rattle.numbers.specs.Limits.{most_key_bytes, most_keys, most_versions}
-use Rattle.words.specs.declared.part.Order.TheVariants.{Less}
+use Rattle.std.specs.declared.cmp.Ordering.TheVariants.{Less}
 use Rattle.words.specs.Part.{order_of}
 use Rattle.words.specs.Field.{AllBytes}
 use Rattle.words.proofs.Ordered.{same_self}
 use Rattle.records.specs.declared.Record.{Record}
-use Rattle.records.specs.declared.DataLength.TheVariants.{Untested}
 use Rattle.records.specs.Model.{Entry, entry_bytes, table_bytes, Falls, Rises}
 use Rattle.records.specs.Tables.{RecordRules, EntryRules, TableRules}
 use Rattle.records.proofs.WriteLaws.{entry_size}
 use Rattle.builder.specs.declared.PointBuilder.{PointBuilder}
-use Rattle.builder.specs.declared.Added.TheVariants as added
 use Rattle.builder.specs.State.{empty_builder, last_of, fits}
 use Rattle.builder.specs.Add.{Call, rises_after, Sized, NewPasses, ContinuedPasses, record_of, new_entry, next_state, next_place, add_of, buffer_after_add}
 use Rattle.builder.specs.SetOffset.{set_causes, buffer_after_set}
@@ -46,7 +45,7 @@ rising_of s buffer table e (held_some front lastKey before last st) g =
     ∙ rises_end front (entry lastKey (before ++ (last ∷ []))) e g))
 
 -- no cause refuses the offset of the record that was added last
-none_refuses : (s : PointBuilder) (buffer : List ℕ) → fits s buffer ≡ true → (s.keys ≡ 0 → ⊥) → None (set_causes s buffer (s.used - 8))
+none_refuses : (s : PointBuilder) (buffer : List ℕ) → fits s buffer ≡ true → (s.keys ≡ 0 → ⊥) → Unrefused (set_causes s buffer (s.used - 8))
 unfolding set_causes
 none_refuses s buffer f k =
     let a : not (fits s buffer) ≡ false = rw f in
@@ -60,7 +59,7 @@ adding key r new_key = record { key = key; kind = r.kind; size = r.length; seque
 module _ (buffer : List ℕ) where
   -- ---- a record that add takes, and its offset set
 
-  module _ {table : List Entry} (key : List ℕ) (r : Record) (new_key : Bool) (I : TakenInto buffer table) (k : RecordRules Untested r) where
+  module _ {table : List Entry} (key : List ℕ) (r : Record) (new_key : Bool) (I : TakenInto buffer table) (k : RecordRules None r) where
     sized : length key ≤ most_key_bytes → Sized I.state I.after (adding key r new_key)
     sized short = record {
       fitting = (taken_facts I.taken).fitting;
@@ -70,7 +69,7 @@ module _ (buffer : List ℕ) where
     }
 
     added_into : AllBytes key → I.state.used ≤ (next_state I.state (adding key r new_key)).used
-        → add_of I.state I.after (adding key r new_key) ≡ added.Taken (next_state I.state (adding key r new_key)) (next_place I.state (adding key r new_key))
+        → add_of I.state I.after (adding key r new_key) ≡ Ok (next_state I.state (adding key r new_key), next_place I.state (adding key r new_key))
         → TakenInto buffer (table_after_add table (adding key r new_key))
     added_into bytes grows e =
         let s = I.state in
@@ -105,7 +104,7 @@ module _ (buffer : List ℕ) where
   -- ---- a record more
 
   module _ (front : List Entry) (key : List ℕ) (bytes : AllBytes key) (short : length key ≤ most_key_bytes) where
-    new_more : (r : Record) → TakenInto buffer front → RecordRules Untested r → length front < most_keys → Rises (front ++ (entry key (r ∷ []) ∷ []))
+    new_more : (r : Record) → TakenInto buffer front → RecordRules None r → length front < most_keys → Rises (front ++ (entry key (r ∷ []) ∷ []))
         → length (table_bytes front) + (29 + length key) ≤ length buffer → TakenInto buffer (front ++ (entry key (r ∷ []) ∷ []))
     unfolding table_after_add table_after_set on_last
     new_more r I k few rising fit =
@@ -122,7 +121,7 @@ module _ (buffer : List ℕ) where
         added_into key r true I k bytes (omega arith) (new_taken s b (adding key r true) (sized key r true I k short) o) in
         subst (TakenInto buffer) (last_changed (with_last_offset r.offset) front a) (offset_into r.offset k.fits.offset_fits (omega arith) I')
 
-    continued_more : (before : List Record) (last r : Record) → TakenInto buffer (ending front key before last) → RecordRules Untested r
+    continued_more : (before : List Record) (last r : Record) → TakenInto buffer (ending front key before last) → RecordRules None r
         → r.sequence < last.sequence → length (before ++ (last ∷ [])) < most_versions → length (table_bytes (ending front key before last)) + 21 ≤ length buffer
         → TakenInto buffer (ending front key (before ++ (last ∷ [])) r)
     unfolding table_after_add table_after_set
@@ -146,7 +145,7 @@ module _ (buffer : List ℕ) where
 
     -- the further versions of the last entry
     versions_more : (rs before : List Record) (last : Record) → TakenInto buffer (ending front key before last) → Falls ((before ++ (last ∷ [])) ++ rs)
-        → Each (RecordRules Untested) rs → length ((before ++ (last ∷ [])) ++ rs) < 256 ^ 4
+        → Each (RecordRules None) rs → length ((before ++ (last ∷ [])) ++ rs) < 256 ^ 4
         → length (table_bytes front) + (8 + length key + 21 * length ((before ++ (last ∷ [])) ++ rs)) ≤ length buffer
         → TakenInto buffer (front ++ (entry key ((before ++ (last ∷ [])) ++ rs) ∷ []))
     versions_more [] before last I falls each few fit = rw append-nil I
@@ -163,11 +162,11 @@ module _ (buffer : List ℕ) where
 
   -- ---- an entry more, and a whole list
 
-  entry_more : (front : List Entry) (e : Entry) → TakenInto buffer front → KeyBytes e → EntryRules Untested e → length front < most_keys
+  entry_more : (front : List Entry) (e : Entry) → TakenInto buffer front → KeyBytes e → EntryRules None e → length front < most_keys
       → Rises (front ++ (e ∷ [])) → length (table_bytes front) + length (entry_bytes e) ≤ length buffer → TakenInto buffer (front ++ (e ∷ []))
   entry_more front e I bytes k few rising fit = go e.versions refl k.versions
     where
-      go : (vs : List Record) → e.versions ≡ vs → Each (RecordRules Untested) vs → TakenInto buffer (front ++ (e ∷ []))
+      go : (vs : List Record) → e.versions ≡ vs → Each (RecordRules None) vs → TakenInto buffer (front ++ (e ∷ []))
       go [] q each_none = absurd (let z : length e.versions ≡ 0 = ap length q in omega (arith, k.some))
       go (r ∷ rs) q (each_more p ps) =
           let n : length e.versions ≡ length (r ∷ rs) = ap length q in
@@ -177,7 +176,7 @@ module _ (buffer : List ℕ) where
           (new_more front e.key bytes k.small r I p few (rises_last front e (entry e.key (r ∷ [])) refl rising) (omega arith))
           (subst Falls q k.falls) ps (subst (λ (m : ℕ). m < 256 ^ 4) n k.few) (omega arith))
 
-  list_more : (es front : List Entry) → TakenInto buffer front → Each KeyBytes es → Each (EntryRules Untested) es
+  list_more : (es front : List Entry) → TakenInto buffer front → Each KeyBytes es → Each (EntryRules None) es
       → length (front ++ es) ≤ most_keys → Rises (front ++ es) → length (table_bytes (front ++ es)) ≤ length buffer → TakenInto buffer (front ++ es)
   list_more [] front I bytes each few rising fit = rw append-nil I
   list_more (e ∷ es) front I (each_more b bs) (each_more k ks) few rising fit =
@@ -191,7 +190,7 @@ module _ (buffer : List ℕ) where
       subst (TakenInto buffer) a (list_more es (front ++ (e ∷ [])) I' bs ks (rw a few) rising' (rw a fit))
 
 -- THEOREM: a list that keeps the rules, of at most 65,536 keys, is taken into any buffer that its bytes fit in
-pub rules_taken : (table : List Entry) → TableRules Untested table → Each KeyBytes table → length table ≤ most_keys
+pub rules_taken : (table : List Entry) → TableRules None table → Each KeyBytes table → length table ≤ most_keys
     → (buffer : List ℕ) → length (table_bytes table) ≤ length buffer → TakenInto buffer table
 rules_taken table rules bytes few buffer fit =
     list_more buffer table []

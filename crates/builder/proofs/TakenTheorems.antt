@@ -11,7 +11,7 @@ use Rattle.laws.specs.Each.{Each}
 use Rattle.laws.specs.Each.Each.{each_none}
 use Rattle.numbers.specs.Limits.{most_versions}
 use Rattle.words.specs.Field.{AllBytes}
-use Rattle.words.specs.declared.part.Order.TheVariants.{Less}
+use Rattle.std.specs.declared.cmp.Ordering.TheVariants.{Less}
 use Rattle.words.specs.Part.{order_of}
 use Rattle.records.specs.declared.Record.{Record}
 use Rattle.records.specs.Model.{Entry, table_bytes, rises_none, rises_one}

@@ -1,17 +1,18 @@
 -- Add: its refusal, the next state and the next buffer (document 01, "Calls and the numbers they refuse with").
-use Rattle.std.specs.Prelude.{ℕ, ◌+◌, ◌-◌, ◌≤◌, ◌<◌, ◌≡◌, Bool, true, false, cond, not, List, [], ◌∷◌, ltb, leb, eqb, length}
+use Rattle.std.specs.Prelude.{ℕ, ◌+◌, ◌-◌, ◌≤◌, ◌<◌, ◌≡◌, Bool, true, false, cond, not, List, [], ◌∷◌, ltb, leb, eqb, length, Result, Ok, Err}
 use Rattle.laws.specs.Refusals.{Cause, cause, first_of}
 use Rattle.numbers.specs.Limits.{most_key_bytes, most_value_bytes, most_keys, most_versions}
+use Rattle.numbers.specs.Numbers.{answered}
+use Rattle.numbers.specs.declared.Refusal.{Refusal}
 use Rattle.words.specs.Field.{bytes_of, splice}
 use Rattle.words.specs.Part.{order_of, same_as}
 use Rattle.records.specs.declared.Kind.{Kind}
 use Rattle.records.specs.declared.Record.{Record}
 use Rattle.records.specs.Model.{Entry, kind_byte, version_bytes, entry_bytes}
 use Rattle.records.specs.Places.{version_count}
-use Rattle.records.specs.Rules.{is_less, full_tombstone}
+use Rattle.std.specs.Ordering.{is_lt}
+use Rattle.records.specs.Rules.{full_tombstone}
 use Rattle.builder.specs.declared.PointBuilder.{PointBuilder}
-use Rattle.builder.specs.declared.Added.{Added}
-use Rattle.builder.specs.declared.Added.TheVariants.{Taken, Refused}
 use Rattle.builder.specs.State.{fits, Last, last_of, room_of}
 
 -- what add is called with, beside the state and the buffer
@@ -29,7 +30,7 @@ pub record Call : Type 0 where
 
 -- the key is greater than the last, if there is one
 unfoldable pub rises_after : PointBuilder → Last → List ℕ → Bool
-rises_after s last key = cond (eqb s.keys 0) true (is_less (order_of last.key key))
+rises_after s last key = cond (eqb s.keys 0) true (is_lt (order_of last.key key))
 
 -- a new key: 4 not greater than the last, 5 a 65,537th key, 6 buffer too short
 unfoldable pub new_causes : PointBuilder → Last → (room : ℕ) → List ℕ → List Cause
@@ -132,28 +133,26 @@ abbrev pub appended : PointBuilder → List ℕ → Call → List ℕ
 appended s buffer call =
     cond call.new_key (new_buffer s buffer call.key (record_of call)) (continued_buffer s buffer (record_of call))
 
+-- an answer of add: the next state and the place of the record's offset, or the refusal
+abbrev pub Added : Type 0
+Added = Result (PointBuilder × ℕ) Refusal
+
 -- what add answers
 unfoldable pub add_of : PointBuilder → List ℕ → Call → Added
-add_of s buffer call =
-    cond (eqb (add_refusal s buffer call) 0) (Taken (next_state s call) (next_place s call)) (Refused (add_refusal s buffer call))
+add_of s buffer call = answered (add_refusal s buffer call) (next_state s call, next_place s call)
 
 -- the buffer that add leaves: as it was, where it refuses
 unfoldable pub buffer_after_add : PointBuilder → List ℕ → Call → List ℕ
 buffer_after_add s buffer call = cond (eqb (add_refusal s buffer call) 0) (appended s buffer call) buffer
 
--- the paper's number of an answer, 0 for a record taken
-abbrev pub added_number : Added → ℕ
-added_number (Taken s place) = 0
-added_number (Refused n) = n
-
 -- its values: the words of the next state (used, keys, head), and the patch place; none for a refusal
 abbrev pub state_values : Added → List ℕ
-state_values (Taken next place) = next.used ∷ next.keys ∷ next.head ∷ []
-state_values (Refused n) = []
+state_values (Ok taken) = taken.0.used ∷ taken.0.keys ∷ taken.0.head ∷ []
+state_values (Err refusal) = []
 
 abbrev pub added_values : Added → List ℕ
-added_values (Taken next place) = place ∷ []
-added_values (Refused n) = []
+added_values (Ok taken) = taken.1 ∷ []
+added_values (Err refusal) = []
 
 -- what add commits to: its answer, and every byte of the buffer
 pub record AddPost (s : PointBuilder) (before : List ℕ) (call : Call) (r : Added) (after : List ℕ) : Type 0 where

@@ -1,14 +1,11 @@
 -- Taken lists: the tables whose records went in from the empty state, each call on the last answered state and on one buffer that
 -- nothing else writes (document 01, "Calls").
-use Rattle.std.specs.Prelude.{ℕ, ◌-◌, ◌^◌, ◌≤◌, ◌<◌, ◌≡◌, true, cond, List, [], ◌∷◌, ◌++◌, length, get_or, take, drop}
+use Rattle.std.specs.Prelude.{ℕ, ◌-◌, ◌^◌, ◌≤◌, ◌<◌, ◌≡◌, true, cond, List, [], ◌∷◌, ◌++◌, length, get_or, take, drop, None, Ok}
 use Rattle.numbers.specs.Limits.{most_keys}
 use Rattle.records.specs.declared.Record.{Record}
-use Rattle.records.specs.declared.DataLength.TheVariants.{Untested}
 use Rattle.records.specs.Model.{Entry, table_bytes}
 use Rattle.records.specs.Tables.{TableRules}
 use Rattle.builder.specs.declared.PointBuilder.{PointBuilder}
-use Rattle.builder.specs.declared.Added.TheVariants as added
-use Rattle.builder.specs.declared.OffsetSet.TheVariants.{Set}
 use Rattle.builder.specs.State.{empty_builder, fits}
 use Rattle.builder.specs.Add.{Call, record_of, new_entry, add_of, buffer_after_add}
 use Rattle.builder.specs.SetOffset.{set_of, buffer_after_set}
@@ -57,11 +54,11 @@ pub data TakenList : PointBuilder → List ℕ → List Entry → Type 0 where
   taken_none : {buffer : List ℕ} → TakenList empty_builder buffer []
   taken_added : {s next : PointBuilder} {buffer : List ℕ} {table : List Entry} {place : ℕ} (call : Call)
       → TakenList s buffer table → ((i : ℕ) → get_or call.key i 0 < 256) → call.sequence < 2 ^ 64
-      → add_of s buffer call ≡ added.Taken next place
+      → add_of s buffer call ≡ Ok (next, place)
       → TakenList next (buffer_after_add s buffer call) (table_after_add table call)
   taken_set : {s : PointBuilder} {buffer : List ℕ} {table : List Entry} (place offset : ℕ)
       → TakenList s buffer table → offset < 2 ^ 64
-      → set_of s buffer place ≡ Set
+      → set_of s buffer place ≡ Ok (record {})
       → TakenList s (buffer_after_set s buffer place offset) (table_after_set table offset)
 
 -- a list that is taken into a buffer: its length is kept, and nothing behind the used bytes is changed
@@ -78,7 +75,7 @@ pub record TakenFacts (s : PointBuilder) (buffer : List ℕ) (table : List Entry
   pub bytes : take s.used buffer ≡ table_bytes table
   pub counted : s.keys ≡ length table
   pub few : length table ≤ most_keys
-  pub rules : TableRules Untested table
+  pub rules : TableRules None table
 
 -- the state that a table fixes: used, its bytes; keys, its entries; head, where its last entry begins
 abbrev pub state_for : List Entry → PointBuilder

@@ -1,14 +1,15 @@
 // Replays the vectors of the builder: ops 0f buffer, 10 add, 11 set offset, 12 look, 13 poke.
 #![tactic(auto)]
 
-use builder::{Added, OffsetSet, PointBuilder};
-use records::{Kind, KindRead};
+use builder::PointBuilder;
+use numbers::Refusal;
+use records::Kind;
 use std::io;
 use std::io::Print;
-use vectors::Count;
+use vectors::{Count, space};
 
 // The builder buffer's length, and the counts of each op.
-#[derive(Drop)]
+#[derive(Default, Drop)]
 pub struct Tally {
     length: usize,
     buffer: Count,
@@ -28,25 +29,14 @@ fn state_in(p: &[u8], at: usize) -> PointBuilder {
 }
 
 // Whether an answer is the one stored at `at`: u8 number (0 taken), state, u64 place.
-fn answered(given: Added, p: &[u8], at: usize) -> bool {
+fn answered(given: Result<(PointBuilder, usize), Refusal>, p: &[u8], at: usize) -> bool {
     let number = vectors::u8_in(p, at);
     match given {
-        Added::Refused(n) => n == number,
-        Added::Taken(next, place) => {
-            let want = state_in(p, vectors::end_in(p, at, 1));
-            if number != 0 {
-                return false;
-            }
-            if next.used != want.used {
-                return false;
-            }
-            if next.keys != want.keys {
-                return false;
-            }
-            if next.head != want.head {
-                return false;
-            }
-            place as u64 == vectors::u64_in(p, vectors::end_in(p, at, 25))
+        Err(refusal) => refusal.number() == number,
+        Ok((next, place)) => {
+            number == 0
+                && next == state_in(p, vectors::end_in(p, at, 1))
+                && place as u64 == vectors::u64_in(p, vectors::end_in(p, at, 25))
         }
     }
 }
@@ -56,7 +46,7 @@ fn added(buffer: &mut [u8], key: &[u8], p: &[u8], at: usize) -> bool {
     if vectors::end_in(p, at, 49) != p.len() {
         return false;
     }
-    let KindRead::Known(kind) = Kind::from_byte(vectors::u8_in(p, 25)) else {
+    let Some(kind) = Kind::from_byte(vectors::u8_in(p, 25)) else {
         return false;
     };
     let size = vectors::u32_in(p, at) as u64;
@@ -69,11 +59,11 @@ fn added(buffer: &mut [u8], key: &[u8], p: &[u8], at: usize) -> bool {
 // Op 10 whose key is one byte repeated: u8 value, u32 length stand at 27.
 fn repeated_agrees(buffer: &mut [u8], p: &[u8]) -> bool {
     let size = vectors::u32_in(p, 28) as usize;
-    if 1_048_640 < size {
-        return false;
+    let room: [u8; space::LARGEST] = space::room(vectors::u8_in(p, 27));
+    match room.get(..size) {
+        Some(key) => added(buffer, key, p, 32),
+        None => false,
     }
-    let key = vectors::space::room(vectors::u8_in(p, 27));
-    added(buffer, &key[..size], p, 32)
 }
 
 // Op 10, whose key stands as bytes or is one byte repeated.
@@ -96,8 +86,8 @@ fn set_agrees(buffer: &mut [u8], p: &[u8]) -> bool {
     }
     let place = vectors::u64_in(p, 24) as usize;
     match state_in(p, 0).set_value_offset(buffer, place, vectors::u64_in(p, 32)) {
-        OffsetSet::Set => vectors::u8_in(p, 40) == 0,
-        OffsetSet::Refused(n) => vectors::u8_in(p, 40) == n,
+        Ok(()) => vectors::u8_in(p, 40) == 0,
+        Err(refusal) => vectors::u8_in(p, 40) == refusal.number(),
     }
 }
 
@@ -111,27 +101,16 @@ fn look_agrees(buffer: &[u8], p: &[u8]) -> bool {
 
 // 13: u32 place, u8 value: changes the buffer.
 fn poked(buffer: &mut [u8], p: &[u8]) -> bool {
-    let place = vectors::u32_in(p, 0) as usize;
-    if place < buffer.len() {
-        buffer[place] = vectors::u8_in(p, 4);
-        return p.len() == 5;
+    match buffer.get_mut(vectors::u32_in(p, 0) as usize) {
+        Some(byte) => {
+            *byte = vectors::u8_in(p, 4);
+            p.len() == 5
+        }
+        None => false,
     }
-    false
 }
 
 impl Tally {
-    // No case yet.
-    pub fn new() -> Self {
-        Tally {
-            length: 0,
-            buffer: Count::new(),
-            add: Count::new(),
-            set: Count::new(),
-            look: Count::new(),
-            poke: Count::new(),
-        }
-    }
-
     // 0f: u32 length, u8 fill: a fresh builder buffer.
     fn opened(mut self, room: &mut [u8], p: &[u8]) -> Tally {
         let size = vectors::u32_in(p, 0) as usize;
@@ -139,7 +118,7 @@ impl Tally {
             self.buffer = self.buffer.counted(false);
             return self;
         }
-        words::part::fill(room, vectors::u8_in(p, 4));
+        room.fill(vectors::u8_in(p, 4));
         self.length = size;
         self.buffer = self.buffer.counted(p.len() == 5);
         self
@@ -147,14 +126,12 @@ impl Tally {
 
     // Replays one case that works on the buffer.
     fn worked(mut self, op: u8, buffer: &mut [u8], p: &[u8]) -> Tally {
-        if op == 0x10 {
-            self.add = self.add.counted(add_agrees(buffer, p));
-        } else if op == 0x11 {
-            self.set = self.set.counted(set_agrees(buffer, p));
-        } else if op == 0x12 {
-            self.look = self.look.counted(look_agrees(buffer, p));
-        } else if op == 0x13 {
-            self.poke = self.poke.counted(poked(buffer, p));
+        match op {
+            0x10 => self.add = self.add.counted(add_agrees(buffer, p)),
+            0x11 => self.set = self.set.counted(set_agrees(buffer, p)),
+            0x12 => self.look = self.look.counted(look_agrees(buffer, p)),
+            0x13 => self.poke = self.poke.counted(poked(buffer, p)),
+            _ => {}
         }
         self
     }
@@ -162,14 +139,13 @@ impl Tally {
     // Replays the case whose payload is the `bytes` field at a place of the file, on room for the builder buffer.
     pub fn replayed(self, file: &[u8], op: u8, place: usize, room: &mut [u8]) -> Tally {
         let p = vectors::bytes_in(file, place);
-        let length = self.length;
         if op == 0x0f {
             return self.opened(room, p);
         }
-        if room.len() < length {
-            return self;
+        match room.get_mut(..self.length) {
+            Some(buffer) => self.worked(op, buffer, p),
+            None => self,
         }
-        self.worked(op, &mut room[..length], p)
     }
 
     // Prints the counts.

@@ -2,56 +2,18 @@
 use Prim.Native.Nat.{ℕ, ◌+◌, ◌≤◌, ◌<◌}
 use mathlib.Core.Path.{◌≡◌, sym, ap, ◌∙◌, subst}
 use mathlib.Core.Bool.{Bool, true, false}
-use mathlib.Core.List.{List, ◌++◌}
+use mathlib.Core.List.{List}
 use mathlib.Core.Option.{none, some, some-injective, none-ne-some}
+use Rattle.std.specs.Prelude.{Some, None}
 use native.Mathlib.Omega.{arith}
 use native.Mathlib.Decide.{ℕ_discrete}
 use native.Mathlib.Numerals.{lt_of_le_of_ne}
-use lib.ListN.{length, take, drop, replicate}
-use lib.Seq.{length-take-le, length_front, take_at}
 use Rattle.mixing.specs.Mixing.{seed_of}
 use Rattle.laws.proofs.StepsLaws.{least_at, least_of_none}
 use Rattle.construct.specs.Construct.{buckets_of, attempts, Placing, attempt_of, construct_of}
 use Rattle.construct.specs.Keys.{hashes_of, attempt_hashes}
-use Rattle.construct.specs.Inner.Layout.{Entries}
-use Rattle.construct.specs.Inner.Layout.{Fresh, Lent, Attempted}
-use Rattle.construct.specs.Answer.{slots_from, placing, constructed_of, ConstructPost}
-use Rattle.construct.specs.declared.Constructed.TheVariants.{Placed, Exhausted}
-use Rattle.construct.proofs.LayingLaws.{zero_front}
-
--- the workspace lent for the keys of an arena
-module _ (arena wide narrow : List ℕ) (n : ℕ) (L : Lent arena wide narrow n) where
-  pub lent_keys : length (take n wide) ≡ n
-  lent_keys = length-take-le n wide (omega (arith, L.long))
-
-  pub lent_entries : Entries arena (length (take n wide))
-  lent_entries = subst (Entries arena) (sym lent_keys) L.entries
-
-  pub lent_kept : (wide' narrow' : List ℕ) → length wide' ≡ length wide → length narrow' ≡ length narrow → Lent arena wide' narrow' n
-  lent_kept wide' narrow' eh ew = record { any = L.any; most = L.most; entries = L.entries; long = eh ∙ L.long; room = omega (arith, L.room) }
-
-  -- of which the words of 32 bits are used up to the slots' end, with the slots from `from` on
-  module _ (b from : ℕ) (eb : b ≡ buckets_of n) (ef : from ≡ slots_from b) where
-    room_for : from + n ≤ length narrow
-    room_for = omega (arith, L.room)
-
-    pub lent_words : length (take (from + n) narrow) ≡ from + n
-    lent_words = length-take-le (from + n) narrow room_for
-
-    -- the hashes put in front, and the words zeroed
-    pub prepared : (seed : ℕ) (e e' : List ℕ) → length e ≡ length (take n wide) → length e' ≡ length (take (from + n) narrow) → e ≡ hashes_of seed arena (length (take n wide)) → e' ≡ replicate (length (take (from + n) narrow)) 0
-        → Fresh (e ++ drop n wide) (e' ++ drop (from + n) narrow) n b × (take n (e ++ drop n wide) ≡ hashes_of seed arena n)
-    prepared seed e e' le lw same z = (
-      record {
-        any = L.any;
-        most = L.most;
-        count = eb;
-        long = length_front wide e n le ∙ L.long;
-        room = omega (arith, room_for, length_front narrow e' (from + n) lw);
-        zero = λ k l. zero_front narrow e' (from + n) room_for z k (omega arith);
-      },
-      take_at e (drop n wide) n (le ∙ lent_keys) ∙ same ∙ ap (hashes_of seed arena) lent_keys,
-    )
+use Rattle.construct.specs.Inner.Layout.{Attempted}
+use Rattle.construct.specs.Answer.{placing, constructed_of, ConstructPost}
 
 -- an attempt over other hashes that are the same
 pub attempted : (hs hs' : List ℕ) (n b : ℕ) (wide narrow : List ℕ) (r : Bool) → hs ≡ hs' → Attempted hs n b wide narrow r → Attempted hs' n b wide narrow r
@@ -59,7 +21,7 @@ attempted hs hs' n b wide narrow r e a = subst (λ (x : List ℕ). Attempted x n
 
 -- attempt i, under the seed `seed` of mixing, after attempts that failed
 module _ (arena : List ℕ) (n i : ℕ) (failed : (q : ℕ) → q < i → attempt_of (attempt_hashes arena n q) ≡ none) where
-  pub built_none : attempts ≤ i → (wide narrow : List ℕ) → ConstructPost (attempt_hashes arena n) n wide narrow Exhausted
+  pub built_none : attempts ≤ i → (wide narrow : List ℕ) → ConstructPost (attempt_hashes arena n) n wide narrow None
   unfolding construct_of
   built_none l wide narrow = record {
     answer = sym (ap constructed_of e);
@@ -75,7 +37,7 @@ module _ (arena : List ℕ) (n i : ℕ) (failed : (q : ℕ) → q < i → attemp
     unfolding attempt_hashes
     under = attempted (hashes_of seed arena n) (hashes_of (seed_of i) arena n) n b wide narrow r (ap (λ (x : ℕ). hashes_of x arena n) es) a
 
-    pub built_placed : i < attempts → r ≡ true → ConstructPost (attempt_hashes arena n) n wide narrow (Placed i)
+    pub built_placed : i < attempts → r ≡ true → ConstructPost (attempt_hashes arena n) n wide narrow (Some i)
     unfolding construct_of
     built_placed l t = record {
       answer = sym (ap constructed_of e);

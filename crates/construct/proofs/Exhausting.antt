@@ -3,14 +3,14 @@
 use Prim.Native.Nat.{ℕ, ◌<◌}
 use mathlib.Core.Path.{◌≡◌, refl, sym, ap, ◌∙◌}
 use mathlib.Core.List.{List, [], ◌∷◌}
-use mathlib.Core.Option.{Option, none, some}
+use mathlib.Core.Option.{Option as Maybe, none, some}
 use native.Mathlib.Omega.{arith}
 use lib.ListN.{length}
+use Rattle.std.specs.Prelude.{Option}
 use Rattle.laws.proofs.StepsLaws.{least_found, least_before, least_none, least_of_none}
 use Rattle.construct.specs.Construct.{attempts, Placing, attempt_of, construct_of}
 use Rattle.construct.specs.Promised.{AllPlaced, Pilots}
 use Rattle.construct.specs.Answer.{constructed_of, constructed_number, constructed_values, ConstructPost}
-use Rattle.construct.specs.declared.Constructed.{Constructed}
 use Rattle.construct.proofs.Placed.{placed}
 use Rattle.construct.proofs.Choosing.{pilots_least}
 
@@ -38,11 +38,11 @@ module _ (hashes : ℕ → List ℕ) where
       (placed (hashes i) (pos i) pl r.1, pilots_least (hashes i) (pos i) pl r.1)
 
   -- 10 EXACTLY WHERE EACH OF THE EIGHT ATTEMPTS FAILS, of what the code answers
-  module _ (n : ℕ) (wide narrow : List ℕ) (r : Constructed) (B : ConstructPost hashes n wide narrow r) where
+  module _ (n : ℕ) (wide narrow : List ℕ) (r : Option ℕ) (B : ConstructPost hashes n wide narrow r) where
     pub ten_fails : constructed_number r ≡ 10 → (i : ℕ) → i < 8 → attempt_of (hashes i) ≡ none
     ten_fails e = all_fail (unanswered (construct_of hashes) (ap constructed_number (sym B.answer) ∙ e))
       where
-        unanswered : (o : Option (ℕ × Placing)) → constructed_number (constructed_of o) ≡ 10 → o ≡ none
+        unanswered : (o : Maybe (ℕ × Placing)) → constructed_number (constructed_of o) ≡ 10 → o ≡ none
         unanswered none z = refl
         unanswered (some (i, pl)) z = absurd (omega arith)
 

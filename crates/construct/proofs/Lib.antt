@@ -6,9 +6,9 @@ pub mod Placed
 pub mod SeatsLaws
 pub mod PlacesLaws
 pub mod FillingLaws
-pub mod PartsLaws
-pub mod BenchLaws
-pub mod SinglesLaws
+pub mod BucketLaws
+pub mod StepLaws
+pub mod BehindLaws
 pub mod AttemptLaws
 pub mod LayingLaws
 pub mod KeysLaws

@@ -4,6 +4,7 @@ use mathlib.Core.Path.{◌≡◌, sym, ap, ◌∙◌}
 use mathlib.Core.List.{List}
 use mathlib.Core.Bool.{Bool, true, false, false≢true}
 use mathlib.Core.Option.{none, some, some-injective}
+use Rattle.std.specs.Prelude.{Some, None}
 use native.Mathlib.Numerals.{add-one, lt_of_le_of_ne}
 use native.Mathlib.Omega.{arith}
 use lib.ListN.{length, get_or, set}
@@ -51,10 +52,7 @@ module _ (hs ms : List ℕ) (p : ℕ) where
   pub seat_off : (j : ℕ) (s t : List ℕ) → j ≤ 0 → seat hs ms p j s ≡ some t → t ≡ s
   seat_off j s t l h = some-injective t s (sym h ∙ ap (λ (x : ℕ). seat hs ms p x s) (omega arith) ∙ seat_none s)
 
-  -- what a run of seating answers: all sit, or they cannot
-  pub sat_all : (r : ℕ) (s t : List ℕ) → SeatedTo hs ms p s t r → r ≡ length ms → seat hs ms p (length ms) s ≡ some t
-  sat_all r s t w e = ap (λ (x : ℕ). seat hs ms p x s) (sym e) ∙ w.seats
-
+  -- what a run of seating answers where not all sit: they cannot
   pub sat_few : (r : ℕ) (s t : List ℕ) → SeatedTo hs ms p s t r → (r ≡ length ms → ⊥) → seat hs ms p (length ms) s ≡ none
   sat_few r s t w e =
       let l : r < length ms = lt_of_le_of_ne w.most e in
@@ -65,22 +63,10 @@ pub tried_yes : (hs ms : List ℕ) (p : ℕ) (s₀ s t : List ℕ) (r : Bool) �
 tried_yes hs ms p s₀ s t true w h e = ap (seat hs ms p (length ms)) (sym w) ∙ h
 tried_yes hs ms p s₀ s t false w h e = absurd (false≢true e)
 
-pub tried_no : (hs ms : List ℕ) (p : ℕ) (s₀ s t : List ℕ) (r : Bool) → s ≡ s₀ → SeatTried (seat hs ms p (length ms) s) s t r → r ≡ false → (seat hs ms p (length ms) s₀ ≡ none) × (t ≡ s₀)
-tried_no hs ms p s₀ s t true w h e = absurd (false≢true (sym e))
-tried_no hs ms p s₀ s t false w h e = (ap (seat hs ms p (length ms)) (sym w) ∙ h.0, h.1 ∙ w)
-
 -- the least pilot found, after those that failed; and none found
 module _ (hs ms s : List ℕ) (p : ℕ) (failed : (q : ℕ) → q < p → seat hs ms q (length ms) s ≡ none) where
-  pub search_hit : (t : List ℕ) → p < tries → seat hs ms p (length ms) s ≡ some t → PilotSearched hs ms s t p
-  search_hit t l h = record {
-    most = omega arith;
-    hit = λ _. least_at (λ q. seat hs ms q (length ms) s) tries p t l failed h;
-    miss = λ e. absurd (omega arith);
-  }
+  pub search_hit : (t : List ℕ) → p < tries → seat hs ms p (length ms) s ≡ some t → PilotSearched hs ms s t (Some p)
+  search_hit t l h = (l, least_at (λ q. seat hs ms q (length ms) s) tries p t l failed h)
 
-  pub search_miss : (t : List ℕ) → t ≡ s → p ≡ tries → PilotSearched hs ms s t p
-  search_miss t w e = record {
-    most = omega arith;
-    hit = λ l. absurd (omega arith);
-    miss = λ _. (least_of_none (λ q. seat hs ms q (length ms) s) tries (λ q l. failed q (omega arith)), w);
-  }
+  pub search_miss : (t : List ℕ) → t ≡ s → tries ≤ p → PilotSearched hs ms s t None
+  search_miss t w e = (least_of_none (λ q. seat hs ms q (length ms) s) tries (λ q l. failed q (omega arith)), w)

@@ -21,10 +21,8 @@ pub fn hash_keys(arena: &[u8], hashes: &mut [u64], seed: u64)
     ensures { hashes.new ≡ hashes_of seed arena.now (length hashes.old) }
 {
     let mut p = 0;
-    let mut i = 0;
-    while i < hashes.len() {
-        hashes[i] = hash_at(arena, p, seed);
+    for hash in hashes.iter_mut() {
+        *hash = hash_at(arena, p, seed);
         p = next_entry(arena, p);
-        i += 1;
     }
 }

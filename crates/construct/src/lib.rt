@@ -2,8 +2,10 @@
 #![tactic(auto)]
 
 pub mod attempt;
+pub mod buckets;
 pub mod group;
 pub mod keys;
+pub mod members;
 pub mod pilot;
 pub mod place;
 pub mod places;
@@ -18,33 +20,20 @@ ghost use Rattle.construct.specs.Answer.{ConstructPost};
 use attempt::attempt;
 use mixing::slot::buckets;
 
-// What construct answers: the attempt that is taken, from 0, or that every attempt failed.
-#[derive(Drop)]
-pub enum Constructed {
-    Placed(u64),
-    Exhausted,
-}
+// The seeds that are tried.
+pub const ATTEMPTS: u64 = 8;
 
-impl Constructed {
-    // The seeds that are tried.
-    pub const ATTEMPTS: u64 = 8;
-
-    // The pilots that are tried for a bucket, from 0.
-    pub const TRIES: u32 = 100_000;
-}
-
-// Places the first n keys of the arena under the first seed that serves. Where one does, its hashes, pilots and slots are left in the workspace.
-pub fn construct(arena: &[u8], wide: &mut [u64], narrow: &mut [u32], n: usize) -> Constructed
+// Places the first n keys of the arena under the first seed that serves, and answers which attempt that is, from 0.
+// Its hashes, pilots and slots are left in the workspace.
+pub fn construct(arena: &[u8], wide: &mut [u64], narrow: &mut [u32], n: usize) -> Option<u64>
     requires { Lent arena.now wide.old narrow.old n }
     ensures { ConstructPost (attempt_hashes arena.now n) n wide.new narrow.new result }
 {
     let b = buckets(n);
-    let mut i = 0;
-    while i < Constructed::ATTEMPTS {
+    for i in 0..ATTEMPTS {
         if attempt(arena, wide, narrow, n, b, mixing::seed(i)) {
-            return Constructed::Placed(i);
+            return Some(i);
         }
-        i += 1;
     }
-    Constructed::Exhausted
+    None
 }

@@ -1,73 +1,62 @@
-// Buckets placed in the words of the workspace: where each bucket's keys begin, the pilots, the slots.
-ghost use Rattle.std.specs.Prelude.{◌<◌, ◌-◌, take};
+// Buckets placed one after another: each takes its pilot, and its members their slots.
+ghost use Rattle.std.specs.Prelude.{◌≡◌, ◌<◌, ◌-◌, length};
 ghost use Rattle.laws.specs.Steps.{steps};
 ghost use Rattle.construct.specs.Construct.{place_group, place_of, place_size, place_down};
-ghost use Rattle.construct.specs.Inner.Layout.{Bench, Stepped};
-ghost use Rattle.construct.specs.Answer.{placing};
+ghost use Rattle.construct.specs.Inner.Layout.{Ready, Went, held};
 
-use super::Constructed;
-use super::places::{pilots_from, slots_from};
+use super::buckets::Buckets;
 use super::seat::find_pilot;
 
 // Gives bucket k its least pilot, and its members their slots.
-fn place_group(wide: &[u64], narrow: &mut [u32], n: usize, b: usize, k: usize) -> bool
-    requires bench { Bench wide.now narrow.old n b }
-    requires k_lt_b { k < b }
-    ensures { Stepped (place_group (take n wide.now) k (placing n b narrow.old)) n b narrow.old narrow.new result }
+fn place_group(keys: Buckets, pilots: &mut [u32], slots: &mut [u32], k: usize) -> bool
+    requires ready { Ready keys.hashes.now pilots.old slots.old }
+    requires k_in_bounds { k < length pilots.old }
+    ensures { Went (place_group keys.entry.hashes.now k (held pilots.old slots.old)) pilots.new slots.new result }
 {
-    let s = n + (narrow[k] as usize);
-    let e = n + (narrow[k + 1] as usize);
-    let base = slots_from(b);
-    let p = find_pilot(&wide[..n], &wide[s..e], &mut narrow[base..base + n]);
-    if p == Constructed::TRIES {
+    let Some(pilot) = find_pilot(keys.group(k), slots) else {
         return false;
-    }
-    narrow[pilots_from(b) + k] = p;
+    };
+    pilots[k] = pilot;
     true
 }
 
 // Places bucket k if it has s members, two or more.
-fn place_of(wide: &[u64], narrow: &mut [u32], n: usize, b: usize, k: usize, s: u32) -> bool
-    requires bench { Bench wide.now narrow.old n b }
-    requires k_lt_b { k < b }
+fn place_of(keys: Buckets, pilots: &mut [u32], slots: &mut [u32], k: usize, s: u32) -> bool
+    requires ready { Ready keys.hashes.now pilots.old slots.old }
+    requires k_in_bounds { k < length pilots.old }
     requires lt_s { 1 < s }
-    ensures { Stepped (place_of (take n wide.now) s k (placing n b narrow.old)) n b narrow.old narrow.new result }
+    ensures { Went (place_of keys.entry.hashes.now s k (held pilots.old slots.old)) pilots.new slots.new result }
 {
-    if narrow[k + 1] - narrow[k] != s {
+    if keys.size(k) != s {
         return true;
     }
-    place_group(wide, narrow, n, b, k)
+    place_group(keys, pilots, slots, k)
 }
 
 // Places the buckets of s members, by lower number first.
-fn place_size(wide: &[u64], narrow: &mut [u32], n: usize, b: usize, s: u32) -> bool
-    requires bench { Bench wide.now narrow.old n b }
+fn place_size(keys: Buckets, pilots: &mut [u32], slots: &mut [u32], s: u32) -> bool
+    requires ready { Ready keys.hashes.now pilots.old slots.old }
     requires lt_s { 1 < s }
-    ensures { Stepped (place_size (take n wide.now) s (placing n b narrow.old)) n b narrow.old narrow.new result }
+    ensures { Went (place_size keys.entry.hashes.now s (held pilots.old slots.old)) pilots.new slots.new result }
 {
-    let mut left = b;
-    while 0 < left {
-        let k = b - left;
-        if !place_of(wide, narrow, n, b, k, s) {
+    for k in 0..pilots.len() {
+        if !place_of(keys, pilots, slots, k, s) {
             return false;
         }
-        left -= 1;
     }
     true
 }
 
 // Places the buckets of two members and more, larger ones first.
-pub fn place_sizes(wide: &[u64], narrow: &mut [u32], n: usize, b: usize, top: u32) -> bool
-    requires bench { Bench wide.now narrow.old n b }
+pub fn place_sizes(keys: Buckets, pilots: &mut [u32], slots: &mut [u32], top: u32) -> bool
+    requires ready { Ready keys.hashes.now pilots.old slots.old }
     requires top_nonzero { 0 < top }
-    ensures { Stepped (steps (place_down (take n wide.now) top) (top - 1) (placing n b narrow.old)) n b narrow.old narrow.new result }
+    ensures { Went (steps (place_down keys.entry.hashes.now top) (top - 1) (held pilots.old slots.old)) pilots.new slots.new result }
 {
-    let mut s = top;
-    while 1 < s {
-        if !place_size(wide, narrow, n, b, s) {
+    for s in (2..=top).rev() {
+        if !place_size(keys, pilots, slots, s) {
             return false;
         }
-        s -= 1;
     }
     true
 }

@@ -1,69 +1,58 @@
 // Buckets of one member: each takes the lowest free slot.
-ghost use Rattle.std.specs.Prelude.{◌≡◌, ◌<◌, ◌≤◌, ◌+◌, ◌-◌, length, get_or, set, take};
-ghost use Rattle.construct.specs.Construct.{direct, place_size};
-ghost use Rattle.construct.specs.Inner.Layout.{Bench, Stepped, FilledBelow, Lowest, SingleOf};
-ghost use Rattle.construct.specs.Answer.{pilots_from, slots_from, placing};
+ghost use Rattle.std.specs.Prelude.{◌≡◌, ◌<◌, ◌≤◌, length};
+ghost use Rattle.construct.specs.Construct.{place_size};
+ghost use Rattle.construct.specs.Inner.Layout.{Ready, Went, FilledBelow, Lowest, SingleOf, held};
 
-use super::places::{pilots_from, slots, slots_from};
+use super::buckets::Buckets;
 use mixing::slot::Pilot;
 
 // The lowest free slot, where those below `from` are taken.
-fn next_free(slots: &[u32], from: usize) -> usize
+fn next_free(slots: &[u32], from: usize) -> Option<usize>
     requires { (from ≤ length slots.now) × FilledBelow slots.now from }
     ensures { Lowest slots.now result }
 {
-    let mut at = from;
-    while at < slots.len() {
+    for at in from..slots.len() {
         if slots[at] == 0 {
-            return at;
+            return Some(at);
         }
-        at += 1;
     }
-    at
+    None
 }
 
-// Puts the one member of bucket k into slot `at`, and names the slot in the bucket's pilot.
-fn put_single(wide: &[u64], narrow: &mut [u32], n: usize, b: usize, k: usize, at: usize)
-    requires bench { Bench wide.now narrow.old n b }
-    requires k_lt_b { (k < b) × (get_or narrow.old (k + 1) 0 - get_or narrow.old k 0 ≡ 1) × (at < n) }
-    ensures { narrow.new ≡ set (set narrow.old (slots_from b + at) (get_or wide.now (n + get_or narrow.old k 0) 0 + 1)) (pilots_from b + k) (direct + at) }
+// Places bucket k if it has one member, in the lowest free slot, which its pilot names. It answers how far the slots are taken, or none
+// where no slot is free.
+fn single_of(
+    keys: Buckets,
+    pilots: &mut [u32],
+    slots: &mut [u32],
+    k: usize,
+    from: usize,
+) -> Option<usize>
+    requires ready { Ready keys.hashes.now pilots.old slots.old }
+    requires k_in_bounds { k < length pilots.old }
+    requires filled { (from ≤ length slots.old) × FilledBelow slots.old from }
+    ensures { SingleOf keys.entry.hashes.now k (held pilots.old slots.old) pilots.new slots.new result }
 {
-    let s = n + (narrow[k] as usize);
-    let m = wide[s];
-    narrow[slots_from(b) + at] = (m + 1) as u32;
-    narrow[pilots_from(b) + k] = Pilot::DIRECT + (at as u32);
-}
-
-// Places bucket k if it has one member, and answers how far the slots are taken, or more than n where none is free.
-fn single_of(wide: &[u64], narrow: &mut [u32], n: usize, b: usize, k: usize, from: usize) -> usize
-    requires bench { Bench wide.now narrow.old n b }
-    requires k_lt_b { (k < b) × (from ≤ n) × FilledBelow (placing n b narrow.old).slots from }
-    ensures { SingleOf (take n wide.now) k n b narrow.old narrow.new result }
-{
-    if narrow[k + 1] - narrow[k] != 1 {
-        return from;
+    if keys.size(k) != 1 {
+        return Some(from);
     }
-    let at = next_free(slots(narrow, n, b), from);
-    if at == n {
-        return n + 1;
-    }
-    put_single(wide, narrow, n, b, k, at);
-    at + 1
+    let at = next_free(slots, from)?;
+    slots[at] = (keys.group(k).keys[0] + 1) as u32;
+    pilots[k] = Pilot::DIRECT + (at as u32);
+    Some(at + 1)
 }
 
 // Places the buckets of one member, by rising number.
-pub fn place_singles(wide: &[u64], narrow: &mut [u32], n: usize, b: usize) -> bool
-    requires { Bench wide.now narrow.old n b }
-    ensures { Stepped (place_size (take n wide.now) 1 (placing n b narrow.old)) n b narrow.old narrow.new result }
+pub fn place_singles(keys: Buckets, pilots: &mut [u32], slots: &mut [u32]) -> bool
+    requires { Ready keys.hashes.now pilots.old slots.old }
+    ensures { Went (place_size keys.entry.hashes.now 1 (held pilots.old slots.old)) pilots.new slots.new result }
 {
     let mut from = 0;
-    let mut k = 0;
-    while k < b {
-        from = single_of(wide, narrow, n, b, k, from);
-        if n < from {
+    for k in 0..pilots.len() {
+        let Some(next) = single_of(keys, pilots, slots, k, from) else {
             return false;
-        }
-        k += 1;
+        };
+        from = next;
     }
     true
 }

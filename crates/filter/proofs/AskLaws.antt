@@ -1,6 +1,6 @@
 -- Laws of asking: the answers as the code gives them. Assumes nothing.
 use mathlib.Core.Path.{◌≡◌, refl, ap, ◌∙◌}
-use mathlib.Core.Bool.{Bool, true, false, cond}
+use mathlib.Core.Bool.{Bool, true, cond}
 use mathlib.Core.List.{List}
 use Prim.Native.Nat.{ℕ, ◌-◌, ◌<◌}
 use native.Mathlib.Nat.{le_of_eq}
@@ -29,10 +29,6 @@ module _ (filter : SstFilter) (cells : List ℕ) (hash : ℕ) where
         → cond t Maybe Absent ≡ ask_cells_of filter cells hash
     unfolding ask_cells_of
     ask_fuse t f p = rw (e, ← f, ← p)
-
-    pub ask_unfit : false ≡ fitting s (length cells) → Refused ≡ ask_cells_of filter cells hash
-    unfolding ask_cells_of
-    ask_unfit f = rw (e, ← f)
 
 -- fewer than 48 bytes are refused
 pub ask_short : (bytes : List ℕ) (hash : ℕ) → length bytes < 48 → Refused ≡ ask_of bytes hash

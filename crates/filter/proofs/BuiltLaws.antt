@@ -8,6 +8,11 @@ use Prim.Native.Nat.{ℕ, zero, suc, ◌+◌, ◌*◌, ◌^◌, ◌≤◌, ◌<�
 use native.Mathlib.Omega.{arith}
 use lib.ListN.{length, take, length-append}
 use lib.Seq.{take_at}
+use Rattle.std.specs.Prelude.{Result, Ok, Err}
+use Rattle.numbers.specs.declared.Refusal.{Refusal}
+use Rattle.numbers.specs.Numbers.{refusal_of, answered, number_of}
+use Rattle.numbers.proofs.NumberLaws.{number_nonzero, refusal_number, Given, number_answered, given_first}
+use Rattle.laws.specs.Each.{each_none, each_more}
 use Rattle.laws.specs.Refusals.{First}
 use Rattle.laws.proofs.RefusalLaws.{first_given, first_only}
 use Rattle.laws.specs.Count.{occurs}
@@ -29,12 +34,12 @@ use Rattle.peel.proofs.AttemptLaws.{check_never_fails, cells_length}
 use Rattle.filter.specs.declared.SstFilter.TheVariants as read
 use Rattle.filter.specs.declared.Asked.TheVariants.{Maybe}
 use Rattle.filter.specs.declared.Built.{Built}
-use Rattle.filter.specs.declared.Built.TheVariants.{Positive, Fuse, Refused}
+use Rattle.filter.specs.declared.Built.TheVariants.{Positive, Fuse}
 use Rattle.filter.specs.Reading.{read_of, positive, fuse}
 use Rattle.filter.specs.Asking.{ask_of}
-use Rattle.filter.specs.Building.{build_causes, build_refusal, first_attempt, seeded, by_attempt, built_of, unless_refused, build_of, built_refusal, written_by, length_by, built_values, out_by, BuildPost, WhyPositive, no_hashes, equal_hashes, no_attempt, FilterOf, as_read}
+use Rattle.filter.specs.Building.{build_causes, build_refusal, first_attempt, seeded, by_attempt, built_of, build_of, written_by, length_by, built_values, out_by, BuildPost, WhyPositive, no_hashes, equal_hashes, no_attempt, FilterOf, as_read}
 use Rattle.filter.proofs.ExactLaws.{layout_reads, positive_asks, fuse_asks}
-use Rattle.filter.proofs.BuildingLaws.{attempt_none, none_attempt, attempt_some, roomy, Way, empty, double, tried, way, not_refused}
+use Rattle.filter.proofs.BuildingLaws.{attempt_none, none_attempt, attempt_some, roomy, Way, empty, double, tried, way}
 
 built_way : (hashes : List ℕ) → Way (length hashes) (sorted hashes) (built_of hashes)
 unfolding built_of
@@ -49,7 +54,7 @@ why hashes b (tried l t) e = go (first_attempt (sizes_of (length hashes)) (sorte
   where
     go : (o : Option (ℕ × ℕ)) → first_attempt (sizes_of (length hashes)) (sorted hashes) ≡ o → by_attempt (sizes_of (length hashes)) o ≡ Positive → WhyPositive hashes
     go none q p = no_attempt (none_attempt (sizes_of (length hashes)) (sorted hashes) q)
-    go (some (i, a)) q p = let z : ◌≡◌ {A = ℕ} 0 1 = cc in absurd (omega arith)
+    go (some (i, a)) q p = cc
 
 pub positive_why : (hashes : List ℕ) → built_of hashes ≡ Positive → WhyPositive hashes
 positive_why hashes e = why hashes (built_of hashes) (built_way hashes) e
@@ -72,12 +77,12 @@ unfolding sizes_of
 seeded_enough n seed s e l few = subst (λ (x : Sizes). 43 * n ≤ 40 * cells_in x.segment x.count) (sym e) (sizes_enough n l few)
 
 whose : (hashes : List ℕ) → length hashes ≤ most_hashes → (b : Built) → Way (length hashes) (sorted hashes) b → (s : Sizes) → b ≡ Fuse s → FilterOf hashes s
-whose hashes few b (empty z) s e = let z : ◌≡◌ {A = ℕ} 0 1 = cc in absurd (omega arith)
-whose hashes few b (double t) s e = let z : ◌≡◌ {A = ℕ} 0 1 = cc in absurd (omega arith)
+whose hashes few b (empty z) s e = cc
+whose hashes few b (double t) s e = cc
 whose hashes few b (tried l t) s e = go (first_attempt (sizes_of (length hashes)) (sorted hashes)) refl e
   where
     go : (o : Option (ℕ × ℕ)) → first_attempt (sizes_of (length hashes)) (sorted hashes) ≡ o → by_attempt (sizes_of (length hashes)) o ≡ Fuse s → FilterOf hashes s
-    go none q p = let z : ◌≡◌ {A = ℕ} 0 1 = cc in absurd (omega arith)
+    go none q p = cc
     go (some (i, a)) q p =
         let F = attempt_some (sizes_of (length hashes)) (sorted hashes) i a q in
         let r : seeded (sizes_of (length hashes)) a ≡ s = cc in
@@ -118,127 +123,129 @@ module _ (hashes : List ℕ) (s : Sizes) (F : FilterOf hashes s) (few : length h
 
 -- ---- the bytes written
 
-written_length : (b : Built) (hs : List ℕ) → ((q : ℕ) → b ≡ Refused q → ⊥) → length (written_by b hs) ≡ length_by b
-written_length Positive hs n = positive_length
-written_length (Fuse s) hs n =
+written_length : (r : Result Built Refusal) (hs : List ℕ) → length (written_by r hs) ≡ length_by r
+written_length (Ok Positive) hs = positive_length
+written_length (Ok (Fuse s)) hs =
     omega (arith, length-append (fuse_header s) (cells_laid s.segment s.count s.seed hs), header_length s, cells_length s.segment s.count s.seed hs)
-written_length (Refused r) hs n = absurd (n r refl)
+written_length (Err r) hs = refl
 
-written_by_lem : (b : Built) (hs out : List ℕ) → ((q : ℕ) → b ≡ Refused q → ⊥) → take (length_by b) (out_by b hs out) ≡ written_by b hs
-written_by_lem Positive hs out n = ap (take 48) (splice_front out positive_bytes) ∙ take_at positive_bytes _ 48 positive_length
-written_by_lem (Fuse s) hs out n =
-    ap (take (length_by (Fuse s))) (splice_front out (written_by (Fuse s) hs)) ∙ take_at (written_by (Fuse s) hs) _ (length_by (Fuse s)) (written_length (Fuse s) hs n)
-written_by_lem (Refused r) hs out n = absurd (n r refl)
+written_by_lem : (r : Result Built Refusal) (hs out : List ℕ) → take (length_by r) (out_by r hs out) ≡ written_by r hs
+written_by_lem (Ok Positive) hs out = ap (take 48) (splice_front out positive_bytes) ∙ take_at positive_bytes _ 48 positive_length
+written_by_lem (Ok (Fuse s)) hs out =
+    let r = Ok (Fuse s) in
+    ap (take (length_by r)) (splice_front out (written_by r hs)) ∙ take_at (written_by r hs) _ (length_by r) (written_length r hs)
+written_by_lem (Err r) hs out = refl
 
 module _ (hashes : List ℕ) (few : length hashes ≤ most_hashes) where
-  reads_by : (b : Built) → built_of hashes ≡ b → ((q : ℕ) → b ≡ Refused q → ⊥) → read_of (written_by b (sorted hashes)) ≡ as_read b
-  reads_by Positive e n = layout_reads positive_bytes read.Positive positive
-  reads_by (Fuse s) e n =
-      let F = built_filter hashes few s e in
+  reads_by : (r : Result Built Refusal) → Ok (built_of hashes) ≡ r → read_of (written_by r (sorted hashes)) ≡ as_read r
+  reads_by (Ok Positive) e = layout_reads positive_bytes read.Positive positive
+  reads_by (Ok (Fuse s)) e =
+      let F = built_filter hashes few s cc in
       layout_reads (fuse_header s ++ cells_laid s.segment s.count s.seed (sorted hashes)) (read.Fuse s)
       (fuse s (cells_laid s.segment s.count s.seed (sorted hashes)) (filter_accepted hashes s F few) (filter_seed hashes s F few))
-  reads_by (Refused r) e n = absurd (n r refl)
+  reads_by (Err r) e = cc
 
-  asks_by : (b : Built) → built_of hashes ≡ b → ((q : ℕ) → b ≡ Refused q → ⊥) → (hash : ℕ) → 1 ≤ occurs hash hashes
-      → ask_of (written_by b (sorted hashes)) hash ≡ Maybe
-  asks_by Positive e n hash k = positive_asks hash
-  asks_by (Fuse s) e n hash k =
-      let F = built_filter hashes few s e in
+  asks_by : (r : Result Built Refusal) → Ok (built_of hashes) ≡ r → (hash : ℕ) → 1 ≤ occurs hash hashes → ask_of (written_by r (sorted hashes)) hash ≡ Maybe
+  asks_by (Ok Positive) e hash k = positive_asks hash
+  asks_by (Ok (Fuse s)) e hash k =
+      let F = built_filter hashes few s cc in
       fuse_asks s (cells_laid s.segment s.count s.seed (sorted hashes)) (filter_accepted hashes s F few) (filter_seed hashes s F few) hash
       ∙ rw (closing_check hashes s F few hash k)
-  asks_by (Refused r) e n hash k = absurd (n r refl)
+  asks_by (Err r) e hash k = cc
 
 -- ---- the call
 
-passed : (k : ℕ) (b x : Built) → unless_refused k b ≡ x → ((q : ℕ) → x ≡ Refused q → ⊥) → (k ≡ 0) × (b ≡ x)
+passed : (k : ℕ) (b : Built) (x : Result Built Refusal) → answered k b ≡ x → ((q : Refusal) → x ≡ Err q → ⊥) → (k ≡ 0) × (Ok b ≡ x)
 passed zero b x e n = (refl, e)
-passed (suc k) b x e n = absurd (n (suc k) (sym e))
+passed (suc k) b x e n = absurd (n (refusal_of (suc k)) (sym e))
 
--- the number of an answer is the refusal
-number_by_lem : (k : ℕ) (b : Built) → ((q : ℕ) → b ≡ Refused q → ⊥) → built_refusal (unless_refused k b) ≡ k
-number_by_lem zero Positive n = refl
-number_by_lem zero (Fuse s) n = refl
-number_by_lem zero (Refused q) n = absurd (n q refl)
-number_by_lem (suc k) b n = refl
+-- each check's number is a refusal's
+numbers_given : (n wide narrow out : ℕ) → Given (build_refusal n wide narrow out)
+unfolding build_refusal
+numbers_given n wide narrow out = given_first (build_causes n wide narrow out) (each_more refl (each_more refl (each_more refl (each_more refl each_none))))
 
--- and a number above 0 is a refusal's
-pub number_refuses : (b : Built) (q : ℕ) → 0 < q → built_refusal b ≡ q → b ≡ Refused q
-number_refuses Positive q l e = absurd (omega arith)
-number_refuses (Fuse s) q l e = absurd (omega arith)
-number_refuses (Refused r) q l e = ap Refused e
+-- a number above 0 is a refusal's
+pub number_refuses : (r : Result Built Refusal) (q : ℕ) → 0 < q → number_of r ≡ q → r ≡ Err (refusal_of q)
+number_refuses (Ok b) q l e = absurd (omega arith)
+number_refuses (Err r) q l e = ap Err (sym (ap refusal_of (sym e) ∙ refusal_number r))
 
-module _ {hashes wide narrow out : List ℕ} {r : Built} {hashes' wide' narrow' out' : List ℕ} (P : BuildPost hashes wide narrow out r hashes' wide' narrow' out') where
+module _ {hashes wide narrow out : List ℕ} {r : Result Built Refusal} {hashes' wide' narrow' out' : List ℕ} (P : BuildPost hashes wide narrow out r hashes' wide' narrow' out') where
   number : ℕ
   number = build_refusal (length hashes) (length wide) (length narrow) (length out)
 
-  answered : unless_refused number (built_of hashes) ≡ r
+  called : answered number (built_of hashes) ≡ r
   unfolding build_of number
-  answered = sym P.answer
+  called = sym P.answer
 
-  unrefused : (q : ℕ) → built_of hashes ≡ Refused q → ⊥
-  unrefused = not_refused (length hashes) (sorted hashes) (built_of hashes) (built_way hashes)
-
-  build_number : built_refusal r ≡ number
-  build_number = ap built_refusal (sym answered) ∙ number_by_lem number (built_of hashes) unrefused
+  build_number : number_of r ≡ number
+  unfolding number
+  build_number =
+      ap number_of (sym called) ∙ number_answered number (built_of hashes) (numbers_given (length hashes) (length wide) (length narrow) (length out))
 
   -- a number has its cause: the first of the checks that fails
-  pub refused_cause : (q : ℕ) → 0 < q → built_refusal r ≡ q → First q (build_causes (length hashes) (length wide) (length narrow) (length out))
+  pub refused_cause : (q : ℕ) → 0 < q → number_of r ≡ q → First q (build_causes (length hashes) (length wide) (length narrow) (length out))
   unfolding build_refusal number
   refused_cause q l e = first_only q _ l (sym build_number ∙ e)
 
   -- and where a check fails its number is given
-  pub cause_refused : (q : ℕ) → First q (build_causes (length hashes) (length wide) (length narrow) (length out)) → built_refusal r ≡ q
+  pub cause_refused : (q : ℕ) → First q (build_causes (length hashes) (length wide) (length narrow) (length out)) → number_of r ≡ q
   unfolding build_refusal number
   cause_refused q f = build_number ∙ first_given f
 
   -- 0 is no refusal
-  pub zero_accepts : built_refusal r ≡ 0 → (q : ℕ) → r ≡ Refused q → ⊥
-  zero_accepts z q e = unrefused q (ap (λ (k : ℕ). unless_refused k (built_of hashes)) (sym z ∙ build_number) ∙ answered ∙ e)
+  pub zero_accepts : number_of r ≡ 0 → (q : Refusal) → r ≡ Err q → ⊥
+  zero_accepts z q e = number_nonzero q (ap number_of (sym e) ∙ z)
+
+  -- what is no refusal is what was built, of no more than the most hashes
+  unrefused : ((q : Refusal) → r ≡ Err q → ⊥) → (length hashes ≤ most_hashes) × (Ok (built_of hashes) ≡ r)
+  unfolding number
+  unrefused n =
+      let p = passed number (built_of hashes) r called n in
+      ((roomy (length hashes) (length wide) (length narrow) (length out) p.0).few, p.1)
 
   -- Positive has its exact causes
-  pub positive_cause : r ≡ Positive → WhyPositive hashes
+  pub positive_cause : r ≡ Ok Positive → WhyPositive hashes
   positive_cause e =
-      positive_why hashes (passed number (built_of hashes) Positive (answered ∙ e) (λ q z. let w : ◌≡◌ {A = ℕ} 0 1 = cc in omega arith)).1
+      let p : Ok (built_of hashes) ≡ r = (unrefused (λ q z. cc)).1 in
+      positive_why hashes cc
 
-  pub cause_positive : build_refusal (length hashes) (length wide) (length narrow) (length out) ≡ 0 → WhyPositive hashes → r ≡ Positive
+  pub cause_positive : build_refusal (length hashes) (length wide) (length narrow) (length out) ≡ 0 → WhyPositive hashes → r ≡ Ok Positive
   unfolding number
-  cause_positive z w = sym answered ∙ ap (λ (k : ℕ). unless_refused k (built_of hashes)) z ∙ why_positive hashes w
-
-  -- where nothing is refused there are no more than the most hashes
-  few : ((q : ℕ) → r ≡ Refused q → ⊥) → length hashes ≤ most_hashes
-  unfolding number
-  few n = (roomy (length hashes) (length wide) (length narrow) (length out) (passed number (built_of hashes) r answered n).0).few
+  cause_positive z w = sym called ∙ ap (λ (k : ℕ). answered k (built_of hashes)) z ∙ ap Ok (why_positive hashes w)
 
   -- a filter is that of the hashes
-  pub filter_cause : (s : Sizes) → r ≡ Fuse s → FilterOf hashes s
+  pub filter_cause : (s : Sizes) → r ≡ Ok (Fuse s) → FilterOf hashes s
   filter_cause s e =
-      let n : (q : ℕ) → r ≡ Refused q → ⊥ = λ q z. let w : ◌≡◌ {A = ℕ} 0 1 = cc in omega arith in
-      built_filter hashes (few n) s ((passed number (built_of hashes) r answered n).1 ∙ e)
+      let p = unrefused (λ q z. cc) in
+      let x : Ok (built_of hashes) ≡ r = p.1 in
+      built_filter hashes p.0 s cc
 
-  module _ (n : (q : ℕ) → r ≡ Refused q → ⊥) where
-    -- its sizes can be used
-    pub built_usable : (s : Sizes) → r ≡ Fuse s → Usable s.segment s.count
-    built_usable s e = filter_usable hashes s (filter_cause s e) (few n)
+  -- its sizes can be used
+  pub built_usable : (s : Sizes) → r ≡ Ok (Fuse s) → Usable s.segment s.count
+  built_usable s e = filter_usable hashes s (filter_cause s e) (unrefused (λ q z. cc)).0
 
+  module _ (n : (q : Refusal) → r ≡ Err q → ⊥) where
     -- the bytes in front of the output
     pub written : take (length_by r) out' ≡ written_by r (sorted hashes)
     written =
-        ap (take (length_by r)) (P.out_after_is ∙ ap (λ (b : Built). out_by b (sorted hashes) out) (sym P.answer)) ∙ written_by_lem r (sorted hashes) out n
+        ap (take (length_by r)) (P.out_after_is ∙ ap (λ (b : Result Built Refusal). out_by b (sorted hashes) out) (sym P.answer))
+        ∙ written_by_lem r (sorted hashes) out
 
     -- its value is how many they are
     pub built_values_is : built_values r ≡ length (take (length_by r) out') ∷ []
-    built_values_is = go r n ∙ ap (λ (k : ℕ). k ∷ []) (sym (ap length written ∙ written_length r (sorted hashes) n))
+    built_values_is = go r n ∙ ap (λ (k : ℕ). k ∷ []) (sym (ap length written ∙ written_length r (sorted hashes)))
       where
-        go : (b : Built) → ((q : ℕ) → b ≡ Refused q → ⊥) → built_values b ≡ length_by b ∷ []
-        go Positive m = refl
-        go (Fuse s) m = refl
-        go (Refused q) m = absurd (m q refl)
+        go : (b : Result Built Refusal) → ((q : Refusal) → b ≡ Err q → ⊥) → built_values b ≡ length_by b ∷ []
+        go (Ok Positive) m = refl
+        go (Ok (Fuse s)) m = refl
+        go (Err q) m = absurd (m q refl)
 
     -- what is built is accepted by reading, with its sizes
     pub built_reads : read_of (take (length_by r) out') ≡ as_read r
-    built_reads = ap read_of written ∙ reads_by hashes (few n) r (passed number (built_of hashes) r answered n).1 n
+    built_reads = let p = unrefused n in ap read_of written ∙ reads_by hashes p.0 r p.1
 
     -- a filter built of a set of hashes never calls one of them absent
     pub never_absent : (hash : ℕ) → 1 ≤ occurs hash hashes → ask_of (take (length_by r) out') hash ≡ Maybe
     never_absent hash k =
-        ap (λ (bytes : List ℕ). ask_of bytes hash) written ∙ asks_by hashes (few n) r (passed number (built_of hashes) r answered n).1 n hash k
+        let p = unrefused n in
+        ap (λ (bytes : List ℕ). ask_of bytes hash) written ∙ asks_by hashes p.0 r p.1 hash k

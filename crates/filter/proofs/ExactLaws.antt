@@ -8,6 +8,8 @@ use native.Mathlib.Omega.{arith}
 use borrow.Author.Tests.{eq-eqb, eqb-true, le-ltb}
 use lib.ListN.{length, drop, length-append, length-drop}
 use lib.Seq.{take_at, drop_at}
+use Rattle.std.specs.Prelude.{Result, Ok}
+use Rattle.numbers.specs.declared.Refusal.{Refusal}
 use Rattle.words.specs.Field.{bytes_of, splice, AllBytes}
 use Rattle.words.specs.Part.{same_as}
 use Rattle.words.proofs.Laws.{le_lt}
@@ -20,8 +22,6 @@ use Rattle.fuse.proofs.HeaderLaws.{header_length, sizes_back}
 use Rattle.filter.specs.declared.SstFilter.{SstFilter}
 use Rattle.filter.specs.declared.SstFilter.TheVariants.{Positive, Fuse, Refused}
 use Rattle.filter.specs.declared.Asked.TheVariants as answer
-use Rattle.filter.specs.declared.Written.{Written}
-use Rattle.filter.specs.declared.Written.TheVariants.{Length}
 use Rattle.filter.specs.Reading.{read_of, read_refusal, read_values, front_of, acceptable, Layout, positive, fuse}
 use Rattle.filter.specs.Asking.{ask_cells_of, ask_of, ask_number}
 use Rattle.filter.specs.Writing.{bytes_for, write_of, output_by, WritePost}
@@ -70,8 +70,8 @@ reads_layout bytes b Refused e n = absurd (n refl)
 -- ---- 15 exactly where there is no layout
 
 laid_accepted : (bytes : List ℕ) (filter : SstFilter) → Layout bytes filter → filter ≡ Refused → ⊥
-laid_accepted bytes filter positive e = let z : ◌≡◌ {A = ℕ} 0 1 = cc in omega arith
-laid_accepted bytes filter (fuse s cells a l) e = let z : ◌≡◌ {A = ℕ} 0 1 = cc in omega arith
+laid_accepted bytes filter positive e = cc
+laid_accepted bytes filter (fuse s cells a l) e = cc
 
 -- the number is 15 for that alone
 unread : (filter : SstFilter) → read_refusal filter ≡ 15 → filter ≡ Refused
@@ -88,7 +88,7 @@ none_refused bytes b no_way = ap read_refusal (by_case (read_of bytes) refl)
     by_case : (filter : SstFilter) → read_of bytes ≡ filter → read_of bytes ≡ Refused
     by_case Positive e = absurd (no_way Positive (reads_layout bytes b Positive e (λ q. laid_accepted positive_bytes Positive positive q)))
     by_case (Fuse s) e =
-        absurd (no_way (Fuse s) (reads_layout bytes b (Fuse s) e (λ q. let z : ◌≡◌ {A = ℕ} 0 1 = cc in omega arith)))
+        absurd (no_way (Fuse s) (reads_layout bytes b (Fuse s) e (λ q. cc)))
     by_case Refused e = e
 
 -- ---- 0, with its values, for each layout
@@ -147,15 +147,15 @@ accepted_length bytes filter e n =
 
 -- writing takes accepted bytes again, where there is room, and puts them in front
 pub written_again : (bytes : List ℕ) (filter : SstFilter) → read_of bytes ≡ filter → (filter ≡ Refused → ⊥)
-    → (out after : List ℕ) (r : Written) → length bytes ≤ length out → WritePost filter (drop 48 bytes) out r after
-    → (r ≡ Length (length bytes)) × (after ≡ splice out 0 bytes)
+    → (out after : List ℕ) (r : Result ℕ Refusal) → length bytes ≤ length out → WritePost filter (drop 48 bytes) out r after
+    → (r ≡ Ok (length bytes)) × (after ≡ splice out 0 bytes)
 unfolding write_of
 written_again bytes filter e n out after r l w =
     let m = accepted_length bytes filter e n in
-    let k : write_of filter (drop 48 bytes) (length out) ≡ Length (length bytes) =
+    let k : write_of filter (drop 48 bytes) (length out) ≡ Ok (length bytes) =
     simp (read_acceptable bytes filter e n, m, le-ltb _ _ l) in (
       w.answer ∙ k,
-      w.output ∙ ap (λ (q : Written). output_by q filter (drop 48 bytes) out) k ∙ ap (splice out 0) (same_again bytes filter e n),
+      w.output ∙ ap (λ (q : Result ℕ Refusal). output_by q filter (drop 48 bytes) out) k ∙ ap (splice out 0) (same_again bytes filter e n),
     )
 
 -- ---- asking gives 15 exactly where reading does

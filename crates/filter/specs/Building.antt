@@ -1,6 +1,8 @@
 -- Building a filter, after document 01, "Arithmetic and construction" and "Calls".
-use Rattle.std.specs.Prelude.{Bool, true, false, cond, List, [], ◌∷◌, ◌++◌, ◌≡◌, ℕ, zero, suc, ◌+◌, ◌*◌, ◌≤◌, ◌<◌, ltb, length, replicate}
+use Rattle.std.specs.Prelude.{Bool, true, false, cond, List, [], ◌∷◌, ◌++◌, ◌≡◌, ℕ, ◌+◌, ◌*◌, ◌≤◌, ◌<◌, ltb, length, replicate, Result, Ok, Err}
 use Rattle.std.proofs.Math.Option.{Option, none, some}
+use Rattle.numbers.specs.declared.Refusal.{Refusal}
+use Rattle.numbers.specs.Numbers.{answered}
 use Rattle.laws.specs.Refusals.{Cause, cause, first_of}
 use Rattle.laws.specs.Count.{occurs}
 use Rattle.laws.specs.Steps.{least}
@@ -19,7 +21,7 @@ use Rattle.peel.specs.Peel.{succeeds, cells_laid}
 use Rattle.filter.specs.declared.SstFilter.{SstFilter}
 use Rattle.filter.specs.declared.SstFilter.TheVariants as read
 use Rattle.filter.specs.declared.Built.{Built}
-use Rattle.filter.specs.declared.Built.TheVariants.{Positive, Fuse, Refused}
+use Rattle.filter.specs.declared.Built.TheVariants.{Positive, Fuse}
 
 -- ---- the checks
 
@@ -74,59 +76,49 @@ unfoldable pub built_of : List ℕ → Built
 built_of hashes = by_plan (plan_of (length hashes)) (sorted hashes)
 
 -- a refusal, or what is built
-abbrev pub unless_refused : ℕ → Built → Built
-unless_refused zero built = built
-unless_refused (suc r) built = Refused (suc r)
-
-unfoldable pub build_of : List ℕ → (wide narrow out : ℕ) → Built
-build_of hashes wide narrow out = unless_refused (build_refusal (length hashes) wide narrow out) (built_of hashes)
-
--- this paper's number: 12, 9 or 6, else none
-abbrev pub built_refusal : Built → ℕ
-built_refusal Positive = 0
-built_refusal (Fuse s) = 0
-built_refusal (Refused r) = r
+unfoldable pub build_of : List ℕ → (wide narrow out : ℕ) → Result Built Refusal
+build_of hashes wide narrow out = answered (build_refusal (length hashes) wide narrow out) (built_of hashes)
 
 -- ---- what is lent, after each answer
 
 -- the bytes written: the Positive layout, or the header and the cells
-abbrev pub written_by : Built → (hashes : List ℕ) → List ℕ
-written_by Positive hashes = positive_bytes
-written_by (Fuse s) hashes = fuse_header s ++ cells_laid s.segment s.count s.seed hashes
-written_by (Refused r) hashes = []
+abbrev pub written_by : Result Built Refusal → (hashes : List ℕ) → List ℕ
+written_by (Ok Positive) hashes = positive_bytes
+written_by (Ok (Fuse s)) hashes = fuse_header s ++ cells_laid s.segment s.count s.seed hashes
+written_by (Err r) hashes = []
 
 -- how many they are
-abbrev pub length_by : Built → ℕ
-length_by Positive = 48
-length_by (Fuse s) = 48 + cells_in s.segment s.count
-length_by (Refused r) = 0
+abbrev pub length_by : Result Built Refusal → ℕ
+length_by (Ok Positive) = 48
+length_by (Ok (Fuse s)) = 48 + cells_in s.segment s.count
+length_by (Err r) = 0
 
 -- this paper's value of an answer: that length, none for a refusal
-abbrev pub built_values : Built → List ℕ
-built_values Positive = length_by Positive ∷ []
-built_values (Fuse s) = length_by (Fuse s) ∷ []
-built_values (Refused r) = []
+abbrev pub built_values : Result Built Refusal → List ℕ
+built_values (Ok Positive) = length_by (Ok Positive) ∷ []
+built_values (Ok (Fuse s)) = length_by (Ok (Fuse s)) ∷ []
+built_values (Err r) = []
 
 -- the output: they stand in front of what stood there; refused, it is as it was
-abbrev pub out_by : Built → (hashes out : List ℕ) → List ℕ
-out_by Positive hashes out = splice out 0 (written_by Positive hashes)
-out_by (Fuse s) hashes out = splice out 0 (written_by (Fuse s) hashes)
-out_by (Refused r) hashes out = out
+abbrev pub out_by : Result Built Refusal → (hashes out : List ℕ) → List ℕ
+out_by (Ok Positive) hashes out = splice out 0 (written_by (Ok Positive) hashes)
+out_by (Ok (Fuse s)) hashes out = splice out 0 (written_by (Ok (Fuse s)) hashes)
+out_by (Err r) hashes out = out
 
 -- the hashes: sorted, unless refused
-abbrev pub hashes_by : Built → (hashes : List ℕ) → List ℕ
-hashes_by Positive hashes = sorted hashes
-hashes_by (Fuse s) hashes = sorted hashes
-hashes_by (Refused r) hashes = hashes
+abbrev pub hashes_by : Result Built Refusal → (hashes : List ℕ) → List ℕ
+hashes_by (Ok Positive) hashes = sorted hashes
+hashes_by (Ok (Fuse s)) hashes = sorted hashes
+hashes_by (Err r) hashes = hashes
 
 -- a workspace: zero, surplus too, unless refused
-abbrev pub space_by : Built → (space : List ℕ) → List ℕ
-space_by Positive space = replicate (length space) 0
-space_by (Fuse s) space = replicate (length space) 0
-space_by (Refused r) space = space
+abbrev pub space_by : Result Built Refusal → (space : List ℕ) → List ℕ
+space_by (Ok Positive) space = replicate (length space) 0
+space_by (Ok (Fuse s)) space = replicate (length space) 0
+space_by (Err r) space = space
 
 -- what a call of build promises
-pub record BuildPost (hashes wide narrow out : List ℕ) (r : Built) (hashes' wide' narrow' out' : List ℕ) : Type 0 where
+pub record BuildPost (hashes wide narrow out : List ℕ) (r : Result Built Refusal) (hashes' wide' narrow' out' : List ℕ) : Type 0 where
   pub answer : r ≡ build_of hashes (length wide) (length narrow) (length out)
   pub hashes_after : hashes' ≡ hashes_by (build_of hashes (length wide) (length narrow) (length out)) hashes
   pub wide_after : wide' ≡ space_by (build_of hashes (length wide) (length narrow) (length out)) wide
@@ -153,7 +145,7 @@ pub record FilterOf (hashes : List ℕ) (s : Sizes) : Type 0 where
   pub first : (i : ℕ) → 1 ≤ i → i < attempt → peels_by (sizes_of (length hashes)) (sorted hashes) i ≡ false
 
 -- how the written bytes are read
-abbrev pub as_read : Built → SstFilter
-as_read Positive = read.Positive
-as_read (Fuse s) = read.Fuse s
-as_read (Refused r) = read.Refused
+abbrev pub as_read : Result Built Refusal → SstFilter
+as_read (Ok Positive) = read.Positive
+as_read (Ok (Fuse s)) = read.Fuse s
+as_read (Err r) = read.Refused

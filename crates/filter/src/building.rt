@@ -1,6 +1,7 @@
 // Building a filter over lent workspace: the checks, the attempts, the closing check, the bytes.
 ghost use Rattle.std.specs.Prelude.{false, ◌≡◌, length};
 ghost use Rattle.fuse.specs.Positions.{FitsCells};
+ghost use Rattle.numbers.specs.Numbers.{number_of};
 ghost use Rattle.filter.specs.Building.{cells_for, build_refusal};
 ghost use Rattle.filter.specs.Inner.Building.{Roomy, Spaced, SearchPost, CellsPost, Missing, MakePost, LayPost};
 
@@ -11,55 +12,60 @@ use peel::Graph;
 use sizing::Plan;
 
 // The cells for n hashes: none for no hashes.
+#[tactic(auto, unfolding(crate::specs::Building::cells_for))]
 fn cells_for(n: usize) -> usize
     ensures { result ≡ cells_for n }
 {
-    let plan = Plan::of(n);
-    match plan {
+    match Plan::of(n) {
         Plan::Positive => 0,
-        Plan::Fuse(s) => Sizes::cells(s),
+        Plan::Fuse(s) => s.cells(),
     }
 }
 
-// The number that lent lengths are refused with, 0 for none.
-pub fn refusal(n: usize, wide: usize, narrow: usize, out: usize) -> u8
-    ensures { result ≡ build_refusal n wide narrow out }
+// Whether lent lengths are enough.
+#[tactic(auto, using(crate::proofs::BuildingLaws::cells_few), unfolding(crate::specs::Building::build_refusal))]
+pub fn check_lengths(n: usize, wide: usize, narrow: usize, out: usize) -> Result<(), Refusal>
+    ensures { number_of result ≡ build_refusal n wide narrow out }
 {
     if Plan::MAX_HASHES < n {
-        return Refusal::HASHES;
+        return Err(Refusal::Hashes);
     }
     let c = cells_for(n);
     if wide < c + n {
-        return Refusal::WORKSPACE;
+        return Err(Refusal::Workspace);
     }
     if narrow < 2 * c + n {
-        return Refusal::WORKSPACE;
+        return Err(Refusal::Workspace);
     }
     if out < Sizes::HEADER + c {
-        return Refusal::BUFFER;
+        return Err(Refusal::Buffer);
     }
-    0
+    Ok(())
 }
 
-// The first of the attempts that peels every hash, 0 if none does; it fills the cells.
-fn search(hashes: &[u64], wide: &mut [u64], narrow: &mut [u32], cells: &mut [u8], s: Sizes) -> u64
+// The first of the attempts that peels every hash, if one does; it fills the cells.
+fn search(
+    hashes: &[u64],
+    wide: &mut [u64],
+    narrow: &mut [u32],
+    cells: &mut [u8],
+    s: Sizes,
+) -> Option<u64>
     requires { Spaced s (length hashes.now) (length wide.old) (length narrow.old) (length cells.old) }
     ensures { SearchPost s hashes.now cells.old cells.new result }
 {
-    let mut i: u64 = 0;
-    while i < Built::ATTEMPTS {
+    for i in 1..=Built::ATTEMPTS {
         let g = Graph {
-            seed: mixing::mix(i + 1),
+            seed: mixing::mix(i),
             segment: s.segment as usize,
             count: s.count as usize,
             cells: cells.len(),
         };
         if peel::attempt(hashes, wide, narrow, cells, g) {
-            return i + 1;
+            return Some(i);
         }
-        i += 1;
     }
-    0
+    None
 }
 
 // The closing membership check: whether every hash is in the cells.
@@ -67,14 +73,7 @@ fn all_present(hashes: &[u64], cells: &[u8], s: Sizes) -> bool
     requires { FitsCells s.segment s.count (length cells.now) }
     ensures { result ≡ false → Missing cells.now s hashes.now }
 {
-    let mut i = 0;
-    while i < hashes.len() {
-        if !fuse::contains(cells, s, hashes[i]) {
-            return false;
-        }
-        i += 1;
-    }
-    true
+    hashes.iter().all(|&hash| fuse::contains(cells, s, hash))
 }
 
 // A filter built over its cells, or Positive where no attempt peels every hash.
@@ -88,15 +87,12 @@ fn construct(
     requires { Spaced s (length hashes.now) (length wide.old) (length narrow.old) (length cells.old) }
     ensures { CellsPost s hashes.now cells.old cells.new result }
 {
-    let i = search(hashes, wide, narrow, cells, s);
-    if i == 0 {
+    let Some(i) = search(hashes, wide, narrow, cells, s) else {
         return Built::Positive;
-    }
+    };
     let f = Sizes {
-        keys: s.keys,
         seed: mixing::mix(i),
-        segment: s.segment,
-        count: s.count,
+        ..s
     };
     if all_present(hashes, cells, f) {
         return Built::Fuse(f);
@@ -105,6 +101,7 @@ fn construct(
 }
 
 // What is built of sorted hashes; the cells of a filter are in the output, where its header is to stand in front.
+#[tactic(auto, unfolding(crate::specs::Building::by_plan))]
 fn make(hashes: &[u64], wide: &mut [u64], narrow: &mut [u32], out: &mut [u8]) -> Built
     requires { Roomy (length hashes.now) (length wide.old) (length narrow.old) (length out.old) }
     ensures { MakePost hashes.now out.old out.new result }
@@ -113,8 +110,7 @@ fn make(hashes: &[u64], wide: &mut [u64], narrow: &mut [u32], out: &mut [u8]) ->
         return Built::Positive;
     }
     let end = Sizes::HEADER + cells_for(hashes.len());
-    let plan = Plan::of(hashes.len());
-    match plan {
+    match Plan::of(hashes.len()) {
         Plan::Positive => Built::Positive,
         Plan::Fuse(s) => construct(hashes, wide, narrow, &mut out[Sizes::HEADER..end], s),
     }
@@ -129,7 +125,6 @@ pub fn lay(hashes: &[u64], wide: &mut [u64], narrow: &mut [u32], out: &mut [u8])
     match built {
         Built::Positive => header::put_positive(out),
         Built::Fuse(s) => header::put_header(out, s),
-        Built::Refused(_) => (),
     }
     built
 }

@@ -11,6 +11,7 @@ ghost use Rattle.filter.specs.Building.{BuildPost};
 mod building;
 
 use fuse::{Sizes, header};
+use numbers::Refusal;
 use words::part;
 
 // What a filter's bytes hold: Positive, sizes beside the lent cells, or nothing that is accepted.
@@ -29,20 +30,11 @@ pub enum Asked {
     Refused,
 }
 
-// How writing went: the bytes written, no filter that reading accepts, or an output that is too short.
-#[derive(Clone, Copy)]
-pub enum Written {
-    Length(usize),
-    Unaccepted,
-    Short,
-}
-
-// What building gives: Positive, the sizes of the filter that was written, or a refusal with its number.
+// What building gives: Positive, or the sizes of the filter that was written.
 #[derive(Clone, Copy)]
 pub enum Built {
     Positive,
     Fuse(Sizes),
-    Refused(u8),
 }
 
 impl Built {
@@ -51,6 +43,7 @@ impl Built {
 }
 
 // Reads a filter's bytes.
+#[tactic(auto, unfolding(crate::specs::Reading::read_of))]
 pub fn read(bytes: &[u8]) -> SstFilter
     ensures { result ≡ read_of bytes.now }
 {
@@ -69,6 +62,7 @@ pub fn read(bytes: &[u8]) -> SstFilter
 }
 
 // Asks a filter that was read, beside its cells, for a hash.
+#[tactic(auto, unfolding(crate::specs::Asking::ask_cells_of))]
 pub fn ask_cells(filter: SstFilter, cells: &[u8], hash: u64) -> Asked
     ensures { result ≡ ask_cells_of filter cells.now hash }
 {
@@ -90,6 +84,7 @@ pub fn ask_cells(filter: SstFilter, cells: &[u8], hash: u64) -> Asked
 }
 
 // Asks a filter's bytes for a hash.
+#[tactic(auto, using(crate::proofs::AskLaws::cells_part), unfolding(crate::specs::Asking::ask_of))]
 pub fn ask(bytes: &[u8], hash: u64) -> Asked
     ensures { result ≡ ask_of bytes.now hash }
 {
@@ -100,6 +95,7 @@ pub fn ask(bytes: &[u8], hash: u64) -> Asked
 }
 
 // Whether some bytes are read as this filter beside so many cells.
+#[tactic(auto, unfolding(crate::specs::Reading::acceptable))]
 fn is_acceptable(filter: SstFilter, cells: usize) -> bool
     ensures { result ≡ acceptable filter cells }
 {
@@ -111,6 +107,7 @@ fn is_acceptable(filter: SstFilter, cells: usize) -> bool
 }
 
 // Puts the bytes in front of the cells.
+#[tactic(auto, unfolding(crate::specs::Reading::acceptable, crate::specs::Reading::front_of))]
 fn put_front(filter: SstFilter, cells: usize, out: &mut [u8])
     requires { (acceptable filter cells ≡ true) × (48 ≤ length out.old) }
     ensures { out.new ≡ splice out.old 0 (front_of filter) }
@@ -122,34 +119,37 @@ fn put_front(filter: SstFilter, cells: usize, out: &mut [u8])
     }
 }
 
-// Writes a filter that was read or built, and its cells.
-pub fn write(filter: SstFilter, cells: &[u8], out: &mut [u8]) -> Written
+// Writes a filter that was read or built, and its cells: how many bytes they are. A filter that reading does not accept is refused, and an
+// output that is too short.
+#[tactic(auto, unfolding(crate::specs::Writing::write_of))]
+pub fn write(filter: SstFilter, cells: &[u8], out: &mut [u8]) -> Result<usize, Refusal>
     ensures { WritePost filter cells.now out.old result out.new }
 {
-    if is_acceptable(filter, cells.len()) {
-        let length = Sizes::HEADER + cells.len();
-        if out.len() < length {
-            return Written::Short;
-        }
-        put_front(filter, cells.len(), out);
-        part::copy_at(out, Sizes::HEADER, cells);
-        Written::Length(length)
-    } else {
-        Written::Unaccepted
+    if !is_acceptable(filter, cells.len()) {
+        return Err(Refusal::Filter);
     }
+    let length = Sizes::HEADER + cells.len();
+    if out.len() < length {
+        return Err(Refusal::Buffer);
+    }
+    put_front(filter, cells.len(), out);
+    part::copy_at(out, Sizes::HEADER, cells);
+    Ok(length)
 }
 
 // Builds a filter of the hashes, and writes it; unless the call is refused, the hashes are left sorted and the workspace zero.
-pub fn build(hashes: &mut [u64], wide: &mut [u64], narrow: &mut [u32], out: &mut [u8]) -> Built
+pub fn build(
+    hashes: &mut [u64],
+    wide: &mut [u64],
+    narrow: &mut [u32],
+    out: &mut [u8],
+) -> Result<Built, Refusal>
     ensures { BuildPost hashes.old wide.old narrow.old out.old result hashes.new wide.new narrow.new out.new }
 {
-    let number = building::refusal(hashes.len(), wide.len(), narrow.len(), out.len());
-    if number != 0 {
-        return Built::Refused(number);
-    }
+    building::check_lengths(hashes.len(), wide.len(), narrow.len(), out.len())?;
     sort::sort(hashes);
     let built = building::lay(hashes, wide, narrow, out);
-    part::clear_u64(wide);
-    part::clear_u32(narrow);
-    built
+    wide.fill(0);
+    narrow.fill(0);
+    Ok(built)
 }

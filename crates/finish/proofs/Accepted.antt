@@ -1,5 +1,6 @@
 -- What finish makes is accepted: the body of an arena that finish takes passes validation with any data that covers its records, its table is
 -- the arena's table, and get on it is the lookup there. Assumes nothing.
+use Rattle.std.specs.Prelude.{None, Ok}
 use Prim.Native.Nat.{ℕ, zero, suc, ◌+◌, ◌-◌, ◌^◌, ◌<◌, ◌≤◌}
 use native.Mathlib.Nat.{add-zero}
 use native.Mathlib.Omega.{arith}
@@ -14,6 +15,7 @@ use borrow.Author.Tests.{lt-leb}
 use Rattle.laws.proofs.Cases.{lt_or_ge}
 use Rattle.laws.proofs.RefusalLaws.{or_else_zero}
 use Rattle.numbers.specs.Limits.{most_keys}
+use Rattle.numbers.specs.Numbers.{answered}
 use Rattle.words.specs.Field.{bytes_of}
 use Rattle.words.proofs.Laws.{bytes_bytes_of, bytes_append}
 use Rattle.words.specs.Field.{AllBytes}
@@ -21,8 +23,7 @@ use Rattle.mixing.specs.Mixing.{hash_of, fingerprint_of, seed_of, bucket_of, buc
 use Rattle.mixing.proofs.SlotLaws.{some_buckets}
 use Rattle.layout.specs.Layout.{index_magic, seed_in, keys_in, buckets_in, arena_in, header_refusal, pilot_at, direct_past, pilot_of, slot_of, slot_place, record_offset, fingerprint_wide}
 use Rattle.layout.proofs.HeaderLaws.{passes, seed_read, keys_read, buckets_read, start_read, header_fine}
-use Rattle.records.specs.declared.DataLength.TheVariants.{Untested}
-use Rattle.records.specs.declared.Limit.{Limit}
+use Rattle.records.specs.Limits.{Limit}
 use Rattle.records.specs.Model.{Entry, table_bytes, lookup}
 use Rattle.records.specs.Places.{key_at, entries_from, entry_place}
 use Rattle.records.specs.Rules.{unslotted}
@@ -34,15 +35,13 @@ use Rattle.construct.specs.Construct.{buckets_of, direct, size, Placing, slot_by
 use Rattle.construct.specs.Keys.{arena_key, attempt_hashes}
 use Rattle.construct.specs.Promised.{AllPlaced, Pilots}
 use Rattle.construct.proofs.KeysLaws.{hashes_long}
-use Rattle.point.specs.declared.Validated.TheVariants.{Accepted}
 use Rattle.point.specs.Validate.{pilots_refusal, validate_of}
 use Rattle.point.specs.Get.{get_of}
 use Rattle.point.specs.Table.{table_of, key_place, key_slot, Belongs, answer_to}
 use Rattle.point.specs.Table as table
 use Rattle.point.proofs.Theorems.{accepts, get_is_lookup}
-use Rattle.finish.specs.declared.Finished.TheVariants.{Body}
 use Rattle.finish.specs.Body.{arena_start, header_bytes, pilots_bytes, slot_bytes, held_slot, slots_bytes, body_bytes, placed_of, body_from, body_of}
-use Rattle.finish.specs.Finish.{walked, keys_of, untaken, lengths_refusal, placing_refusal, finish_refusal, answered, body_length, finish_of}
+use Rattle.finish.specs.Finish.{walked, keys_of, untaken, lengths_refusal, placing_refusal, finish_refusal, body_length, finish_of}
 use Rattle.finish.proofs.LengthLaws.{Lengths, lengths}
 use Rattle.finish.proofs.BodyLaws.{body_long}
 use Rattle.finish.proofs.FinishLaws.{refused_by, hash_at}
@@ -62,15 +61,15 @@ pub record Made (arena : List ℕ) : Type 0 where
 
 module _ (arena : List ℕ) (out wide narrow k : ℕ) where
   -- a body is answered where nothing refuses, with its length
-  pub body_answered : finish_of arena out wide narrow ≡ Body k → (finish_refusal arena out wide narrow ≡ 0) × (k ≡ body_length arena (keys_of arena))
+  pub body_answered : finish_of arena out wide narrow ≡ Ok k → (finish_refusal arena out wide narrow ≡ 0) × (k ≡ body_length arena (keys_of arena))
   unfolding finish_of
   body_answered e = go (finish_refusal arena out wide narrow) e
     where
-      go : (r : ℕ) → answered r (body_length arena (keys_of arena)) ≡ Body k → (r ≡ 0) × (k ≡ body_length arena (keys_of arena))
+      go : (r : ℕ) → answered r (body_length arena (keys_of arena)) ≡ Ok k → (r ≡ 0) × (k ≡ body_length arena (keys_of arena))
       go zero q = (refl, let z : body_length arena (keys_of arena) ≡ k = cc in sym z)
       go (suc r) q = absurd (let z : ◌≡◌ {A = ℕ} 0 1 = cc in omega arith)
 
-  pub made : finish_of arena out wide narrow ≡ Body k → Made arena
+  pub made : finish_of arena out wide narrow ≡ Ok k → Made arena
   unfolding placing_refusal
   made e = go (placed_of arena (keys_of arena)) refl (passes (untaken (placed_of arena (keys_of arena))) 9 _ both.1).0
     where
@@ -204,13 +203,13 @@ module _ (arena : List ℕ) (M : Made arena) (all : AllBytes arena) where
   t : List Entry
   t = entries_from arena 0 (keys_of arena)
 
-  table_rules : TableRules Untested t
+  table_rules : TableRules None t
   unfolding t walked
-  table_rules = (read_back unslotted arena Untested 0 0 (length arena) all (omega arith)).rules
+  table_rules = (read_back unslotted arena None 0 0 (length arena) all (omega arith)).rules
 
   table_bytes_lem : arena ≡ table_bytes t
   unfolding t walked
-  table_bytes_lem = read_whole unslotted arena Untested (length arena) all M.whole
+  table_bytes_lem = read_whole unslotted arena None (length arena) all M.whole
 
   some_arena : 0 < length arena
   unfolding t
@@ -267,13 +266,13 @@ module _ (arena : List ℕ) (M : Made arena) (all : AllBytes arena) where
   -- at most 65,536 keys within the rules: fewer than 2^64 bytes
   arena_low : length arena < 2 ^ 64
   unfolding t
-  arena_low = omega (arith, ap length table_bytes_lem, table_most Untested t table_rules.entries, entries_count arena 0 (keys_of arena), M.most)
+  arena_low = omega (arith, ap length table_bytes_lem, table_most None t table_rules.entries, entries_count arena 0 (keys_of arena), M.most)
 
   -- every place is below 2^64
   place_low : (j : ℕ) → j < n → entry_place arena 0 j < 2 ^ 64
   unfolding n walked
   place_low j l =
-      let e : (walked arena).end ≡ entry_place arena 0 (keys_of arena) = walk_ends unslotted arena Untested 0 0 (length arena) in
+      let e : (walked arena).end ≡ entry_place arena 0 (keys_of arena) = walk_ends unslotted arena None 0 0 (length arena) in
       omega (arith, place_rises arena 0 j (keys_of arena) l, e, M.whole, arena_low)
 
   -- slot s, where it holds key j
@@ -319,16 +318,16 @@ module _ (arena : List ℕ) (M : Made arena) (all : AllBytes arena) where
       ∙ pilots_fine body n 0 (buckets_of n) (λ j l. let p = pilot_at_lem j (omega arith) in ap (direct_past n) p.0 ∙ lt-leb (direct + n) (get_or M.placing.pilots j 0) p.1)
 
   -- THEOREM: the body is accepted with any data that covers the arena's records
-  made_accepted : (cover : ℕ) → TableInData cover t → validate_of body cover ≡ Accepted
+  made_accepted : (cover : ℕ) → TableInData cover t → validate_of body cover ≡ Ok (record {})
   unfolding t n
   made_accepted cover h =
       accepts body cover t header_passed pilots_passed (entries_count arena 0 (keys_of arena) ∙ sym keys_of_lem)
       (ap₂ drop start_of split ∙ drop_at front arena (length front) refl ∙ table_bytes_lem)
-      (table_tested Untested cover t table_rules h) (λ j l. belongs j (omega (arith, keys_of_lem)))
+      (table_tested None cover t table_rules h) (λ j l. belongs j (omega (arith, keys_of_lem)))
 
-module _ (arena : List ℕ) (out wide narrow k : ℕ) (all : AllBytes arena) (e : finish_of arena out wide narrow ≡ Body k) where
+module _ (arena : List ℕ) (out wide narrow k : ℕ) (all : AllBytes arena) (e : finish_of arena out wide narrow ≡ Ok k) where
   -- THEOREM: for any arena that finish takes, the body is accepted with any data length that covers its records
-  pub finish_accepted : (cover : ℕ) → TableInData cover (entries_from arena 0 (keys_of arena)) → validate_of (body_of arena (keys_of arena)) cover ≡ Accepted
+  pub finish_accepted : (cover : ℕ) → TableInData cover (entries_from arena 0 (keys_of arena)) → validate_of (body_of arena (keys_of arena)) cover ≡ Ok (record {})
   unfolding body t
   finish_accepted cover h = ap (λ (z : List ℕ). validate_of z cover) (body_is arena (made arena out wide narrow k e) all) ∙ made_accepted arena (made arena out wide narrow k e) all cover h
 

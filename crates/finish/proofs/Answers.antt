@@ -8,7 +8,10 @@ use mathlib.Core.List.{List, [], ◌∷◌}
 use mathlib.Core.Option.{Option, none, some}
 use mathlib.Core.Logic.{◌⊎◌, inl, inr}
 use lib.ListN.{length}
-use Rattle.laws.specs.Refusals.{cause, First}
+use Rattle.numbers.specs.Numbers.{answered, number_of}
+use Rattle.numbers.proofs.NumberLaws.{Given, number_answered, given_first}
+use Rattle.laws.specs.Each.{Each, each_none, each_more}
+use Rattle.laws.specs.Refusals.{Cause, cause, First}
 use Rattle.laws.proofs.RefusalLaws.{first_given, first_only}
 use Rattle.laws.specs.Refusals.First.{here, later}
 use Rattle.laws.specs.Refusals.{FirstOfTwo}
@@ -22,42 +25,41 @@ use Rattle.construct.proofs.KeysLaws.{hashes_long}
 use Rattle.construct.proofs.Failing.{fails_attempt, attempt_fails}
 use Rattle.construct.proofs.Exhausting.{all_fail, none_attempted}
 use Rattle.finish.specs.Body.{placed_of}
-use Rattle.finish.specs.Finish.{walked, keys_of, walked_causes, walked_refusal, untaken, mismatched, placing_causes, lengths_refusal, placing_refusal, finish_causes, finish_refusal, answered, body_length, finish_of, finished_number, finished_values}
+use Rattle.finish.specs.Finish.{walked, keys_of, walked_causes, walked_refusal, untaken, mismatched, placing_causes, lengths_refusal, placing_refusal, finish_causes, finish_refusal, body_length, finish_of, finished_values}
 use Rattle.finish.proofs.LengthLaws.{lengths}
 use Rattle.finish.proofs.FinishLaws.{refused_by, refused_late}
 use Rattle.finish.proofs.SelfCheck.{check_passes}
 
--- the number of an answer is the refusal
-number_of : (r size : ℕ) → finished_number (answered r size) ≡ r
-number_of zero size = refl
-number_of (suc r) size = refl
-
--- and its value the body's length, where there is none
+-- the value of an answer is the body's length, where nothing is refused
 values_of : (r size : ℕ) → r ≡ 0 → finished_values (answered r size) ≡ size ∷ []
 values_of zero size z = refl
 values_of (suc r) size z = absurd (omega arith)
 
 module _ (arena : List ℕ) (out wide narrow : ℕ) where
-  pub finish_number : finished_number (finish_of arena out wide narrow) ≡ finish_refusal arena out wide narrow
-  unfolding finish_of
-  finish_number = number_of (finish_refusal arena out wide narrow) (body_length arena (keys_of arena))
+  -- each cause has the number of a refusal
+  finish_given : Each (λ (c : Cause). Given c.number) (finish_causes arena out wide narrow)
+  finish_given = each_more refl (each_more refl (each_more refl (each_more refl (each_more refl (each_more refl (each_more refl (each_more refl each_none)))))))
+
+  pub finish_number : number_of (finish_of arena out wide narrow) ≡ finish_refusal arena out wide narrow
+  unfolding finish_of finish_refusal
+  finish_number = number_answered (finish_refusal arena out wide narrow) (body_length arena (keys_of arena)) (given_first _ finish_given)
 
   -- THEOREM: a number is answered exactly where its cause is the first that holds, in the order 8, 5, 9, 6, 10, 11
-  pub cause_first : (r : ℕ) → 0 < r → finished_number (finish_of arena out wide narrow) ≡ r → First r (finish_causes arena out wide narrow)
+  pub cause_first : (r : ℕ) → 0 < r → number_of (finish_of arena out wide narrow) ≡ r → First r (finish_causes arena out wide narrow)
   unfolding finish_refusal
   cause_first r p e = first_only r (finish_causes arena out wide narrow) p (sym finish_number ∙ e)
 
-  pub cause_given : (r : ℕ) → First r (finish_causes arena out wide narrow) → finished_number (finish_of arena out wide narrow) ≡ r
+  pub cause_given : (r : ℕ) → First r (finish_causes arena out wide narrow) → number_of (finish_of arena out wide narrow) ≡ r
   unfolding finish_refusal
   cause_given r f = finish_number ∙ first_given f
 
   -- THEOREM: the value of 0 is the body's length
-  pub finish_values : finished_number (finish_of arena out wide narrow) ≡ 0 → finished_values (finish_of arena out wide narrow) ≡ body_length arena (keys_of arena) ∷ []
+  pub finish_values : number_of (finish_of arena out wide narrow) ≡ 0 → finished_values (finish_of arena out wide narrow) ≡ body_length arena (keys_of arena) ∷ []
   unfolding finish_of
   finish_values e = values_of (finish_refusal arena out wide narrow) (body_length arena (keys_of arena)) (sym finish_number ∙ e)
 
   -- a number above 9 is given past the length checks, by the placing
-  past_lengths : (r : ℕ) → 9 < r → finished_number (finish_of arena out wide narrow) ≡ r
+  past_lengths : (r : ℕ) → 9 < r → number_of (finish_of arena out wide narrow) ≡ r
       → (lengths_refusal arena out wide narrow ≡ 0) × (placing_refusal arena (keys_of arena) ≡ r)
   unfolding walked_refusal
   past_lengths r l e = go (two_only r _ _ (sym (refused_by arena out wide narrow) ∙ sym finish_number ∙ e))
@@ -77,7 +79,7 @@ module _ (arena : List ℕ) (out wide narrow : ℕ) where
       go (by_second z q) = (z, q)
 
   -- THEOREM: 10 exactly where nothing is refused before and each of the eight attempts fails
-  pub ten_exhausts : finished_number (finish_of arena out wide narrow) ≡ 10 → (i : ℕ) → i < 8 → attempt_of (attempt_hashes arena (keys_of arena) i) ≡ none
+  pub ten_exhausts : number_of (finish_of arena out wide narrow) ≡ 10 → (i : ℕ) → i < 8 → attempt_of (attempt_hashes arena (keys_of arena) i) ≡ none
   unfolding placing_refusal placed_of
   ten_exhausts e =
       all_fail (attempt_hashes arena (keys_of arena))
@@ -89,7 +91,7 @@ module _ (arena : List ℕ) (out wide narrow : ℕ) where
       go (some x) (later h (here h1 z)) = absurd (omega arith)
       go (some x) (later h (later _ y)) = elim y [ ]
 
-  pub exhausts_ten : lengths_refusal arena out wide narrow ≡ 0 → ((i : ℕ) → i < 8 → attempt_of (attempt_hashes arena (keys_of arena) i) ≡ none) → finished_number (finish_of arena out wide narrow) ≡ 10
+  pub exhausts_ten : lengths_refusal arena out wide narrow ≡ 0 → ((i : ℕ) → i < 8 → attempt_of (attempt_hashes arena (keys_of arena) i) ≡ none) → number_of (finish_of arena out wide narrow) ≡ 10
   unfolding placing_refusal placed_of
   exhausts_ten z f = finish_number ∙ refused_late arena out wide narrow z ∙ rw (none_attempted (attempt_hashes arena (keys_of arena)) f)
 
@@ -103,18 +105,18 @@ module _ (arena : List ℕ) (out wide narrow : ℕ) where
 
   -- THEOREM: 10 exactly where nothing is refused before and for each of the eight seeds two members of a bucket have equal hashes, or a bucket
   -- of two or more finds no pilot
-  pub ten_attempts : finished_number (finish_of arena out wide narrow) ≡ 10
+  pub ten_attempts : number_of (finish_of arena out wide narrow) ≡ 10
       → (lengths_refusal arena out wide narrow ≡ 0) × ((i : ℕ) → i < 8 → AttemptFails (attempt_hashes arena (keys_of arena) i))
   ten_attempts e =
       let z = (past_lengths 10 (omega arith) e).0 in
       (z, λ i l. attempt_fails (attempt_hashes arena (keys_of arena) i) (some_hash z i) (ten_exhausts e i l))
 
   pub attempts_ten : lengths_refusal arena out wide narrow ≡ 0 → ((i : ℕ) → i < 8 → AttemptFails (attempt_hashes arena (keys_of arena) i))
-      → finished_number (finish_of arena out wide narrow) ≡ 10
+      → number_of (finish_of arena out wide narrow) ≡ 10
   attempts_ten z f = exhausts_ten z (λ i l. fails_attempt (attempt_hashes arena (keys_of arena) i) (some_hash z i) (f i l))
 
   -- THEOREM: 11 is never answered
-  pub never_eleven : finished_number (finish_of arena out wide narrow) ≡ 11 → ⊥
+  pub never_eleven : number_of (finish_of arena out wide narrow) ≡ 11 → ⊥
   unfolding placing_refusal
   never_eleven e =
       let p = past_lengths 11 (omega arith) e in
@@ -130,11 +132,11 @@ module _ (arena : List ℕ) (out wide narrow : ℕ) where
 
 -- THEOREM: past the length checks the answer is a body or 10
 pub body_or_ten : (arena : List ℕ) (out wide narrow : ℕ) → 0 < keys_of arena → lengths_refusal arena out wide narrow ≡ 0
-    → (finished_number (finish_of arena out wide narrow) ≡ 0) ⊎ (finished_number (finish_of arena out wide narrow) ≡ 10)
+    → (number_of (finish_of arena out wide narrow) ≡ 0) ⊎ (number_of (finish_of arena out wide narrow) ≡ 10)
 unfolding placing_refusal
 body_or_ten arena out wide narrow any z = go (placed_of arena (keys_of arena)) refl (finish_number arena out wide narrow ∙ refused_late arena out wide narrow z)
   where
-    go : (o : Option (ℕ × Placing)) → placed_of arena (keys_of arena) ≡ o → finished_number (finish_of arena out wide narrow) ≡ placing_refusal arena (keys_of arena)
-        → (finished_number (finish_of arena out wide narrow) ≡ 0) ⊎ (finished_number (finish_of arena out wide narrow) ≡ 10)
+    go : (o : Option (ℕ × Placing)) → placed_of arena (keys_of arena) ≡ o → number_of (finish_of arena out wide narrow) ≡ placing_refusal arena (keys_of arena)
+        → (number_of (finish_of arena out wide narrow) ≡ 0) ⊎ (number_of (finish_of arena out wide narrow) ≡ 10)
     go none q e = inr (e ∙ rw q)
     go (some (i, pl)) q e = inl (e ∙ rw (q, check_passes arena (keys_of arena) i pl any q))

@@ -1,17 +1,13 @@
 -- The parts of a body: their lengths, and the parts written one after another. Assumes nothing.
 use Prim.Native.Nat.{ℕ, ◌+◌, ◌-◌, ◌*◌, ◌≤◌, ◌<◌}
-use native.Mathlib.Decide.{ℕ_discrete}
-use native.Mathlib.Numerals.{lt_of_le_of_ne}
 use native.Mathlib.Omega.{arith}
 use mathlib.Core.Path.{◌≡◌, sym, ap, ap₂, ◌∙◌, subst}
 use mathlib.Core.List.{List, ◌++◌, flat_map, append_assoc}
-use lib.ListN.{length, get_or, set, length-append}
-use lib.Seq.{get_or-set_same, get_or-set_other}
+use lib.ListN.{length, get_or, length-append}
 use Rattle.words.specs.Field.{bytes_of, splice}
 use Rattle.words.proofs.Laws.{length_bytes_of, splice_then}
 use Rattle.mixing.specs.Mixing.{fingerprint_of}
 use Rattle.layout.proofs.HeaderLaws.{header_long, start_is}
-use Rattle.records.specs.Places.{entry_place}
 use Rattle.construct.specs.Construct.{buckets_of, Placing}
 use Rattle.finish.specs.Body.{arena_start, header_bytes, pilots_bytes, slot_bytes, held_slot, slots_bytes, body_bytes}
 use Rattle.finish.specs.Inner.Needs.{Room, placed_as, PlacesListed, listed_slot, Filled, SlotsKnown}
@@ -54,20 +50,6 @@ slot_written o0 o1 o2 o3 at offset fingerprint h e1 e2 e3 =
     let l2 : length m2 ≡ 10 = simp (length-append, length_bytes_of) in
     let q2 : o2 ≡ splice o0 at m2 = e2 ∙ ap (λ (z : List ℕ). splice z (at + 8) (bytes_of 2 fingerprint)) e1 ∙ splice_then o0 at (bytes_of 8 offset) (at + 8) (bytes_of 2 fingerprint) (omega arith) (omega arith) in
     e3 ∙ ap (λ (z : List ℕ). splice z (at + 10) (bytes_of 2 0)) q2 ∙ splice_then o0 at m2 (at + 10) (bytes_of 2 0) (omega arith) (omega arith) ∙ ap (splice o0 at) (append_assoc (bytes_of 8 offset) (bytes_of 2 fingerprint) (bytes_of 2 0))
-
--- ---- places listed one after another
-
-pub listed_more : (arena wide wide₀ : List ℕ) (n i p : ℕ) → i < n → length wide ≡ n + n → p ≡ entry_place arena 0 i
-    → ((m : ℕ) → m < n → get_or wide m 0 ≡ get_or wide₀ m 0) → ((m : ℕ) → m < i → get_or wide (n + m) 0 ≡ entry_place arena 0 m)
-    → ((m : ℕ) → m < n → get_or (set wide (n + i) p) m 0 ≡ get_or wide₀ m 0) × ((m : ℕ) → m < i + 1 → get_or (set wide (n + i) p) (n + m) 0 ≡ entry_place arena 0 m)
-listed_more arena wide wide₀ n i p l len e keep so = (
-  λ m lm. get_or-set_other wide (n + i) m p 0 (λ z. omega arith) ∙ keep m lm,
-  λ m lm. here m lm (ℕ_discrete m i),
-)
-  where
-    here : (m : ℕ) → m < i + 1 → Dec (m ≡ i) → get_or (set wide (n + i) p) (n + m) 0 ≡ entry_place arena 0 m
-    here m lm (yes z) = ap (λ (x : ℕ). get_or (set wide (n + i) p) (n + x) 0) z ∙ get_or-set_same wide (n + i) p 0 (omega arith) ∙ e ∙ ap (entry_place arena 0) (sym z)
-    here m lm (no z) = get_or-set_other wide (n + i) (n + m) p 0 (λ q. z (omega arith)) ∙ so m (lt_of_le_of_ne (omega arith) z)
 
 -- the slots by what the workspace holds are the slots of the keys
 pub slots_listed : (arena wide wide' pilots slots : List ℕ) (n seed : ℕ) → PlacesListed arena n wide wide' → SlotsKnown arena wide pilots slots n seed

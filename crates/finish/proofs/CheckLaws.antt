@@ -1,31 +1,18 @@
--- The self-check, a slot at a time, and that every slot is filled where it passes. Assumes nothing.
+-- What it says that the self-check passes: every slot is filled, by a key whose index it is. Assumes nothing.
 use Prim.Native.Nat.{ℕ, ◌-◌, ◌≤◌, ◌<◌}
 use native.Mathlib.Omega.{arith}
-use mathlib.Core.Path.{◌≡◌, refl, sym, ap, ◌∙◌}
-use mathlib.Core.Bool.{Bool, true, false, not, ◌||◌, false≢true}
+use mathlib.Core.Path.{◌≡◌, refl, sym}
+use mathlib.Core.Bool.{Bool, true, false, ◌||◌, false≢true}
 use mathlib.Core.List.{List}
 use lib.Dec.{eqb, ltb}
 use lib.ListN.{length, get_or}
-use borrow.Author.Tests.{ltb-false, eqb-true, eqb-false, not-false, lt-ltb, le-ltb, eq-eqb, ne_eqb}
+use borrow.Author.Tests.{ltb-false, eqb-true, eqb-false, not-false}
 use Rattle.laws.proofs.StepsLaws.{any_false}
 use Rattle.construct.specs.Construct.{index_of}
 use Rattle.finish.specs.Finish.{unmatched, unmatched_at, mismatch}
 use Rattle.finish.specs.Inner.Needs.{Filled}
 
 module _ (hs pilots : List ℕ) (n s held : ℕ) where
-  pub unmatched_free : held ≡ 0 → true ≡ unmatched hs pilots n s held
-  unfolding unmatched
-  unmatched_free h = rw (eq-eqb held 0 h)
-
-  module _ (some : held ≡ 0 → ⊥) where
-    pub unmatched_past : n < held → true ≡ unmatched hs pilots n s held
-    unfolding unmatched
-    unmatched_past h = rw (ne_eqb held 0 some, lt-ltb n held h)
-
-    pub unmatched_by : held ≤ n → (r : ℕ) → r ≡ index_of (get_or hs (held - 1) 0) pilots n → not (eqb r s) ≡ unmatched hs pilots n s held
-    unfolding unmatched
-    unmatched_by h r e = rw (ne_eqb held 0 some, le-ltb n held h, e)
-
   -- a slot that passes holds a key, whose index it is
   pub record Matched : Type 0 where
     pub filled : 0 < held
@@ -43,11 +30,6 @@ module _ (hs pilots : List ℕ) (n s held : ℕ) where
       neither : (a b : Bool) → (a || b) ≡ false → (a ≡ false) × (b ≡ false)
       neither true b e = absurd (false≢true (sym e))
       neither false b e = (refl, e)
-
--- the test of a slot by what was read of it
-pub unmatched_at_lem : (hs pilots slots : List ℕ) (n s : ℕ) (r : Bool) → n ≡ length slots → r ≡ unmatched hs pilots n s (get_or slots s 0) → unmatched_at hs pilots slots s ≡ r
-unfolding unmatched_at
-unmatched_at_lem hs pilots slots n s r e h = ap (λ (x : ℕ). unmatched hs pilots x s (get_or slots s 0)) (sym e) ∙ sym h
 
 -- where the self-check passes, each slot does
 pub slot_matched : (hs pilots slots : List ℕ) → mismatch hs pilots slots ≡ false → (s : ℕ) → s < length slots → Matched hs pilots (length slots) s (get_or slots s 0)

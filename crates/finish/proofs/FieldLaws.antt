@@ -7,7 +7,7 @@ use lib.ListN.{length, get_or, take, drop, length-append}
 use lib.Seq.{length-take-le}
 use Rattle.numbers.specs.Limits.{most_keys}
 use Rattle.words.specs.Field.{bytes_of}
-use Rattle.words.proofs.Laws.{length_bytes_of, bytes_of_append}
+use Rattle.words.proofs.Laws.{length_bytes_of}
 use Rattle.words.proofs.WrittenLaws.{le_written}
 use Rattle.mixing.specs.Mixing.{hash_of, fingerprint_of, fingerprint_of_lt}
 use Rattle.layout.specs.Layout.{pilot_at, slot_place, record_offset, fingerprint_wide}
@@ -21,9 +21,10 @@ use Rattle.finish.proofs.BodyLaws.{held_long, pilots_long, slots_long}
 
 -- a fingerprint and the zero behind it are one number of 32 bits
 wide_print : (v : ℕ) → v < 2 ^ 16 → bytes_of 4 v ≡ bytes_of 2 v ++ bytes_of 2 0
+unfolding bytes_of
 wide_print v h =
-    let z : v / 256 ^ 2 ≡ 0 = omega arith in
-    bytes_of_append 2 2 v ∙ ap (λ (x : ℕ). bytes_of 2 v ++ bytes_of 2 x) z
+    let z : v / 256 / 256 ≡ 0 = omega arith in
+    rw z
 
 -- the body of n keys under a seed and a placing
 module _ (arena : List ℕ) (n seed : ℕ) (pl : Placing) (most : n ≤ most_keys) where

@@ -1,4 +1,6 @@
 -- Finish by its parts: the refusal before the keys are placed and the one after, and what the workspace of a taken attempt gives. Assumes nothing.
+use Rattle.std.specs.Prelude.{None, Some, Result, Ok, Err}
+use Rattle.std.specs.Prelude as prelude
 use Prim.Native.Nat.{ℕ, zero, suc, ◌+◌, ◌*◌, ◌≤◌, ◌<◌}
 use native.Mathlib.Nat.{zero-lt-suc}
 use native.Mathlib.Omega.{arith}
@@ -12,6 +14,11 @@ use lib.ListN.{length, get_or, take, drop, length-drop, replicate, get_or-append
 use lib.Seq.{get_or-take, get_or_at, length-take-le}
 use lib.Dec.{eqb}
 use borrow.Author.Tests.{ne_eqb}
+use Rattle.numbers.specs.declared.Refusal.{Refusal}
+use Rattle.numbers.specs.declared.Refusal.TheVariants.{Attempts, SelfCheck}
+use Rattle.numbers.specs.Numbers.{number, answered}
+use Rattle.numbers.proofs.NumberLaws.{number_nonzero, answered_refusal}
+use Rattle.records.specs.declared.Walked.{Walked}
 use Rattle.laws.specs.Refusals.{or_else, Numbered}
 use Rattle.laws.specs.Refusals.Numbered.{numbered_none, numbered_more}
 use Rattle.laws.proofs.RefusalLaws.{first_append, or_else_stop}
@@ -20,21 +27,15 @@ use Rattle.mixing.specs.Mixing.{hash_of, seed_of}
 use Rattle.mixing.proofs.SlotLaws.{few_buckets}
 use Rattle.construct.specs.Construct.{buckets_of, Placing, construct_of}
 use Rattle.construct.specs.Keys.{arena_key, hashes_of, attempt_hashes}
-use Rattle.records.specs.declared.DataLength.TheVariants.{Untested}
-use Rattle.records.specs.declared.Walked.{Walked}
 use Rattle.records.specs.Places.{entry_place}
 use Rattle.records.specs.Rules.{unslotted}
-use Rattle.records.specs.Walk.{walk_from}
+use Rattle.records.specs.Walk.{Finds, walk_from}
 use Rattle.records.proofs.PassedLaws.{walk_ends}
 use Rattle.construct.specs.Inner.Layout.{Lent}
 use Rattle.construct.specs.Answer.{constructed_of, pilots_from, slots_from, pilots_in, slots_in, placing, ConstructPost}
-use Rattle.construct.specs.declared.Constructed.{Constructed}
-use Rattle.construct.specs.declared.Constructed.TheVariants.{Placed, Exhausted}
 use Rattle.construct.proofs.KeysLaws.{hashes_long}
-use Rattle.finish.specs.declared.Finished.{Finished}
-use Rattle.finish.specs.declared.Finished.TheVariants.{Body, Refused}
 use Rattle.finish.specs.Body.{arena_start, body_bytes, placed_of, body_from, body_of}
-use Rattle.finish.specs.Finish.{walked_causes, placing_causes, walked_refusal, mismatch, placing_refusal, lengths_refusal, keys_of, walked, finish_refusal, answered, body_length, finish_of, out_after, space_after, FinishPost}
+use Rattle.finish.specs.Finish.{walked_causes, placing_causes, walked_refusal, mismatch, placing_refusal, lengths_refusal, keys_of, walked, finish_refusal, body_length, finish_of, out_after, space_after, FinishPost}
 use Rattle.finish.specs.Inner.Needs.{Room, placed_as, AttemptTaken, BodyPost, SlotsKnown, Filled}
 use Rattle.finish.proofs.LengthLaws.{Lengths, lengths}
 use Rattle.finish.proofs.CheckLaws.{all_filled}
@@ -61,11 +62,6 @@ module _ (arena : List ℕ) (out wide narrow : ℕ) where
   pub refused_late : lengths_refusal arena out wide narrow ≡ 0 → finish_refusal arena out wide narrow ≡ placing_refusal arena (keys_of arena)
   refused_late h = refused_by ∙ ap (λ (x : ℕ). or_else x (placing_refusal arena (keys_of arena))) h
 
--- a refusal is answered by its number
-pub answered_refused : (r size : ℕ) → (r ≡ 0 → ⊥) → answered r size ≡ Refused r
-answered_refused zero size h = absurd (h refl)
-answered_refused (suc r) size h = refl
-
 -- ---- the room for the keys
 
 pub room_lent : (arena out wide narrow : List ℕ) (n : ℕ) → Room arena out wide n → 8 * n + 8 ≤ length narrow → Lent arena wide narrow n
@@ -79,20 +75,20 @@ room_kept arena out wide wide' n R e = record { any = R.any; most = R.most; entr
 -- ---- what construct left
 
 module _ (arena wide narrow : List ℕ) (n : ℕ) where
-  pub exhausted : (r : Constructed) → r ≡ Exhausted → ConstructPost (attempt_hashes arena n) n wide narrow r → placed_of arena n ≡ none
+  pub exhausted : (r : prelude.Option ℕ) → r ≡ None → ConstructPost (attempt_hashes arena n) n wide narrow r → placed_of arena n ≡ none
   unfolding placed_of
   exhausted r er B = go (construct_of (attempt_hashes arena n)) (sym er ∙ B.answer)
     where
-      go : (o : Option (ℕ × Placing)) → Exhausted ≡ constructed_of o → o ≡ none
+      go : (o : Option (ℕ × Placing)) → None ≡ constructed_of o → o ≡ none
       go none e = refl
       go (some (i, pl)) e = absurd (let z : ◌≡◌ {A = ℕ} 0 1 = cc in omega arith)
 
-  pub chosen : (i b : ℕ) (pilots slots : List ℕ) (r : Constructed) → r ≡ Placed i → ConstructPost (attempt_hashes arena n) n wide narrow r → slots_from b + n ≤ length narrow
+  pub chosen : (i b : ℕ) (pilots slots : List ℕ) (r : prelude.Option ℕ) → r ≡ Some i → ConstructPost (attempt_hashes arena n) n wide narrow r → slots_from b + n ≤ length narrow
       → b ≡ buckets_of n → pilots ≡ pilots_in b narrow → slots ≡ slots_in n b narrow → AttemptTaken arena wide pilots slots n i
   unfolding placed_of placing
   chosen i b pilots slots r er B room eb ep es = go (construct_of (attempt_hashes arena n)) refl (sym er ∙ B.answer)
     where
-      go : (o : Option (ℕ × Placing)) → construct_of (attempt_hashes arena n) ≡ o → Placed i ≡ constructed_of o → AttemptTaken arena wide pilots slots n i
+      go : (o : Option (ℕ × Placing)) → construct_of (attempt_hashes arena n) ≡ o → Some i ≡ constructed_of o → AttemptTaken arena wide pilots slots n i
       go none e q = absurd (let z : ◌≡◌ {A = ℕ} 0 1 = cc in omega arith)
       go (some (j, pl)) e q =
           let ij : i ≡ j = cc in
@@ -137,38 +133,39 @@ module _ (arena wide pilots slots : List ℕ) (n i : ℕ) (C : AttemptTaken aren
 
 -- ---- what was built
 
-pub built_ten : (arena out : List ℕ) (n : ℕ) → placed_of arena n ≡ none → BodyPost arena out n (Refused 10) out
+pub built_ten : (arena out : List ℕ) (n : ℕ) → placed_of arena n ≡ none → BodyPost arena out n (Err Attempts) out
 unfolding placing_refusal
 built_ten arena out n e = record { answer = rw e; written = rw e }
 
-pub built_eleven : (arena out : List ℕ) (n : ℕ) → placing_refusal arena n ≡ 11 → BodyPost arena out n (Refused 11) out
+pub built_eleven : (arena out : List ℕ) (n : ℕ) → placing_refusal arena n ≡ 11 → BodyPost arena out n (Err SelfCheck) out
 built_eleven arena out n e = record { answer = rw e; written = rw e }
 
-pub built_body : (arena out out' : List ℕ) (n start : ℕ) → placing_refusal arena n ≡ 0 → start ≡ arena_start n → out' ≡ splice out 0 (body_of arena n) → BodyPost arena out n (Body (start + length arena)) out'
+pub built_body : (arena out out' : List ℕ) (n start : ℕ) → placing_refusal arena n ≡ 0 → start ≡ arena_start n → out' ≡ splice out 0 (body_of arena n) → BodyPost arena out n (Ok (start + length arena)) out'
 built_body arena out out' n start e es q = record { answer = rw (e, es); written = rw e q }
 
 -- ---- what finish leaves
 
-module _ (arena out wide narrow : List ℕ) (k : Walked) (ek : k ≡ walk_from unslotted arena Untested 0 0 (length arena)) where
-  by_walk : walked_refusal (length arena) k.end k.keys (length out) (length wide) (length narrow) ≡ lengths_refusal arena (length out) (length wide) (length narrow)
-  unfolding walked
-  by_walk = ap (λ (x : Walked). walked_refusal (length arena) x.end x.keys (length out) (length wide) (length narrow)) ek
-
+module _ (arena out wide narrow : List ℕ) (k : Walked) (F : Finds k (walk_from unslotted arena None 0 0 (length arena))) where
   keys_walked : k.keys ≡ keys_of arena
   unfolding walked
-  keys_walked = ap (λ (x : Walked). x.keys) ek
+  keys_walked = F.keys
+
+  by_walk : walked_refusal (length arena) k.end k.keys (length out) (length wide) (length narrow) ≡ lengths_refusal arena (length out) (length wide) (length narrow)
+  unfolding walked
+  by_walk = ap₂ (λ (e n : ℕ). walked_refusal (length arena) e n (length out) (length wide) (length narrow)) F.end F.keys
 
   -- refused before the keys are placed: nothing is written
-  pub post_early : (r : ℕ) → r ≡ walked_refusal (length arena) k.end k.keys (length out) (length wide) (length narrow) → (r ≡ 0 → ⊥) → FinishPost arena out wide narrow (Refused r) out wide narrow
+  pub post_early : (r : Refusal) → number r ≡ walked_refusal (length arena) k.end k.keys (length out) (length wide) (length narrow) → FinishPost arena out wide narrow (Err r) out wide narrow
   unfolding finish_of out_after
-  post_early r e n =
-      let e' : lengths_refusal arena (length out) (length wide) (length narrow) ≡ r = sym (e ∙ by_walk) in
-      let q : finish_refusal arena (length out) (length wide) (length narrow) ≡ r = refused_early arena (length out) (length wide) (length narrow) (λ z. n (sym e' ∙ z)) ∙ e' in
+  post_early r e =
+      let e' : lengths_refusal arena (length out) (length wide) (length narrow) ≡ number r = sym (e ∙ by_walk) in
+      let n : eqb (number r) 0 ≡ false = ne_eqb (number r) 0 (number_nonzero r) in
+      let q : finish_refusal arena (length out) (length wide) (length narrow) ≡ number r = refused_early arena (length out) (length wide) (length narrow) (λ z. number_nonzero r (sym e' ∙ z)) ∙ e' in
       record {
-        answer = sym (ap (λ (x : ℕ). answered x (body_length arena (keys_of arena))) q ∙ answered_refused r _ n);
-        out_after_is = sym (ap (λ (x : ℕ). cond (eqb x 0) (splice out 0 (body_of arena (keys_of arena))) out) q ∙ ap (λ (t : Bool). cond t (splice out 0 (body_of arena (keys_of arena))) out) (ne_eqb r 0 n));
-        wide_after = sym (ap (λ (x : ℕ). space_after x wide) e' ∙ ap (λ (t : Bool). cond t (replicate (length wide) 0) wide) (ne_eqb r 0 n));
-        narrow_after = sym (ap (λ (x : ℕ). space_after x narrow) e' ∙ ap (λ (t : Bool). cond t (replicate (length narrow) 0) narrow) (ne_eqb r 0 n));
+        answer = sym (answered_refusal r _ _ (sym q));
+        out_after_is = sym (ap (λ (x : ℕ). cond (eqb x 0) (splice out 0 (body_of arena (keys_of arena))) out) q ∙ ap (λ (t : Bool). cond t (splice out 0 (body_of arena (keys_of arena))) out) n);
+        wide_after = sym (ap (λ (x : ℕ). space_after x wide) e' ∙ ap (λ (t : Bool). cond t (replicate (length wide) 0) wide) n);
+        narrow_after = sym (ap (λ (x : ℕ). space_after x narrow) e' ∙ ap (λ (t : Bool). cond t (replicate (length narrow) 0) narrow) n);
       }
 
   module _ (passed : walked_refusal (length arena) k.end k.keys (length out) (length wide) (length narrow) ≡ 0) where
@@ -180,7 +177,7 @@ module _ (arena out wide narrow : List ℕ) (k : Walked) (ek : k ≡ walk_from u
 
     walk_inside : entry_place arena 0 k.keys ≤ length arena
     walk_inside =
-        let e : k.end ≡ entry_place arena 0 k.keys = ap (λ (x : Walked). x.end) ek ∙ walk_ends unslotted arena Untested 0 0 (length arena) ∙ ap (λ (x : Walked). entry_place arena 0 x.keys) (sym ek) in
+        let e : k.end ≡ entry_place arena 0 k.keys = F.end ∙ walk_ends unslotted arena None 0 0 (length arena) ∙ ap (entry_place arena 0) (sym F.keys) in
         omega (arith, e, length_facts.whole)
 
     pub post_room : Room arena out (take (k.keys + k.keys) wide) k.keys × (8 * k.keys + 8 ≤ length narrow)
@@ -196,7 +193,7 @@ module _ (arena out wide narrow : List ℕ) (k : Walked) (ek : k ≡ walk_from u
     )
 
     -- the keys placed or not: the output as that leaves it, the workspace zero
-    pub post_late : (r : Finished) (out' wide' narrow' : List ℕ) → BodyPost arena out k.keys r out' → wide' ≡ replicate (length wide) 0 → narrow' ≡ replicate (length narrow) 0 → FinishPost arena out wide narrow r out' wide' narrow'
+    pub post_late : (r : Result ℕ Refusal) (out' wide' narrow' : List ℕ) → BodyPost arena out k.keys r out' → wide' ≡ replicate (length wide) 0 → narrow' ≡ replicate (length narrow) 0 → FinishPost arena out wide narrow r out' wide' narrow'
     unfolding finish_of out_after
     post_late r out' wide' narrow' B ew eu =
         let z : lengths_refusal arena (length out) (length wide) (length narrow) ≡ 0 = sym by_walk ∙ passed in

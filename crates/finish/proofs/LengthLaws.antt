@@ -1,49 +1,16 @@
--- The refusals before the keys are placed, a test at a time, and what it says that none was given. Assumes nothing.
+-- What it says that nothing is refused before the keys are placed, both ways. Assumes nothing.
 use Prim.Native.Nat.{ℕ, ◌+◌, ◌*◌, ◌≤◌, ◌<◌}
 use native.Mathlib.Omega.{arith}
 use mathlib.Core.Path.{◌≡◌}
 use mathlib.Core.Bool.{not}
 use lib.Dec.{eqb, ltb}
-use borrow.Author.Tests.{ltb-false, eqb-true, eqb-false, not-false, lt-ltb, le-ltb, eq-eqb, ne_eqb}
+use borrow.Author.Tests.{ltb-false, eqb-true, eqb-false, not-false, le-ltb, eq-eqb, ne_eqb}
 use Rattle.numbers.specs.Limits.{most_keys}
 use Rattle.layout.proofs.HeaderLaws.{passes}
 use Rattle.finish.specs.Body.{arena_start}
 use Rattle.finish.specs.Finish.{walked_refusal}
 
 module _ (size end n out wide narrow : ℕ) where
-  pub length_broken : (end ≡ size → ⊥) → 8 ≡ walked_refusal size end n out wide narrow
-  unfolding walked_refusal
-  length_broken h = rw (ne_eqb end size h)
-
-  module _ (e : end ≡ size) where
-    pub length_empty : n ≡ 0 → 5 ≡ walked_refusal size end n out wide narrow
-    unfolding walked_refusal
-    length_empty h = rw (eq-eqb end size e, eq-eqb n 0 h)
-
-    module _ (some : n ≡ 0 → ⊥) where
-      pub length_many : most_keys < n → 5 ≡ walked_refusal size end n out wide narrow
-      unfolding walked_refusal
-      length_many h = rw (eq-eqb end size e, ne_eqb n 0 some, lt-ltb most_keys n h)
-
-      module _ (few : n ≤ most_keys) where
-        pub length_wide : wide < 2 * n → 9 ≡ walked_refusal size end n out wide narrow
-        unfolding walked_refusal
-        length_wide h = rw (eq-eqb end size e, ne_eqb n 0 some, le-ltb most_keys n few, lt-ltb wide (2 * n) h)
-
-        module _ (w : 2 * n ≤ wide) where
-          pub length_narrow : narrow < 8 * n + 8 → 9 ≡ walked_refusal size end n out wide narrow
-          unfolding walked_refusal
-          length_narrow h = rw (eq-eqb end size e, ne_eqb n 0 some, le-ltb most_keys n few, le-ltb wide (2 * n) w, lt-ltb narrow (8 * n + 8) h)
-
-          module _ (u : 8 * n + 8 ≤ narrow) where
-            pub length_out : out < arena_start n + size → 6 ≡ walked_refusal size end n out wide narrow
-            unfolding walked_refusal
-            length_out h = rw (eq-eqb end size e, ne_eqb n 0 some, le-ltb most_keys n few, le-ltb wide (2 * n) w, le-ltb narrow (8 * n + 8) u, lt-ltb out (arena_start n + size) h)
-
-            pub length_fits : arena_start n + size ≤ out → 0 ≡ walked_refusal size end n out wide narrow
-            unfolding walked_refusal
-            length_fits h = rw (eq-eqb end size e, ne_eqb n 0 some, le-ltb most_keys n few, le-ltb wide (2 * n) w, le-ltb narrow (8 * n + 8) u, le-ltb out (arena_start n + size) h)
-
   -- what it says that none was given
   pub record Lengths : Type 0 where
     pub whole : end ≡ size
@@ -71,3 +38,17 @@ module _ (size end n out wide narrow : ℕ) where
         narrow_long = ltb-false _ _ e5.0;
         room = ltb-false _ _ e6.0;
       }
+
+  -- and where it is so, nothing is refused
+  pub length_fits : end ≡ size → (n ≡ 0 → ⊥) → n ≤ most_keys → 2 * n ≤ wide → 8 * n + 8 ≤ narrow → arena_start n + size ≤ out
+      → 0 ≡ walked_refusal size end n out wide narrow
+  unfolding walked_refusal
+  length_fits e some few w u h =
+      rw (
+        eq-eqb end size e,
+        ne_eqb n 0 some,
+        le-ltb most_keys n few,
+        le-ltb wide (2 * n) w,
+        le-ltb narrow (8 * n + 8) u,
+        le-ltb out (arena_start n + size) h,
+      )

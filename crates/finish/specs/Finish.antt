@@ -1,23 +1,22 @@
 -- Finish: its refusals in document 01's order, its answer, and what it leaves in the output and the workspace.
-use Rattle.std.specs.Prelude.{ℕ, zero, suc, ◌+◌, ◌-◌, ◌*◌, ◌≡◌, Bool, true, false, not, cond, ◌||◌, List, [], ◌∷◌, ◌++◌, eqb, ltb, length, get_or, replicate}
+use Rattle.std.specs.Prelude.{ℕ, ◌+◌, ◌-◌, ◌*◌, ◌≡◌, Bool, true, false, not, cond, ◌||◌, List, [], ◌∷◌, ◌++◌, eqb, ltb, length, get_or, replicate, None, Result, Ok, Err}
 use Rattle.std.proofs.Math.Option.{Option, none, some}
 use Rattle.laws.specs.Refusals.{Cause, cause, first_of}
 use Rattle.laws.specs.Steps.{any_below}
+use Rattle.numbers.specs.declared.Refusal.{Refusal}
 use Rattle.numbers.specs.Limits.{most_keys}
+use Rattle.numbers.specs.Numbers.{answered}
 use Rattle.words.specs.Field.{splice}
-use Rattle.records.specs.declared.DataLength.TheVariants.{Untested}
-use Rattle.records.specs.declared.Walked.{Walked}
+use Rattle.records.specs.Walk.{Walk}
 use Rattle.records.specs.Rules.{unslotted}
 use Rattle.records.specs.Walk.{walk_from}
 use Rattle.construct.specs.Construct.{Placing, index_of}
 use Rattle.construct.specs.Keys.{attempt_hashes}
-use Rattle.finish.specs.declared.Finished.{Finished}
-use Rattle.finish.specs.declared.Finished.TheVariants.{Body, Refused}
 use Rattle.finish.specs.Body.{arena_start, placed_of, body_of}
 
 -- the walk of records without slot and data test
-unfoldable pub walked : List ℕ → Walked
-walked arena = walk_from unslotted arena Untested 0 0 (length arena)
+unfoldable pub walked : List ℕ → Walk
+walked arena = walk_from unslotted arena None 0 0 (length arena)
 
 -- the keys of an arena, counted by walking
 abbrev pub keys_of : List ℕ → ℕ
@@ -78,16 +77,12 @@ finish_causes arena out wide narrow =
 unfoldable pub finish_refusal : List ℕ → (out wide narrow : ℕ) → ℕ
 finish_refusal arena out wide narrow = first_of (finish_causes arena out wide narrow)
 
--- the answer by the refusal: the body's length where there is none
-abbrev pub answered : (refusal size : ℕ) → Finished
-answered zero size = Body size
-answered (suc r) size = Refused (suc r)
-
 -- the length of the body of n keys
 abbrev pub body_length : List ℕ → ℕ → ℕ
 body_length arena n = arena_start n + length arena
 
-unfoldable pub finish_of : List ℕ → (out wide narrow : ℕ) → Finished
+-- what finish answers: the body's length, or the refusal of the number
+unfoldable pub finish_of : List ℕ → (out wide narrow : ℕ) → Result ℕ Refusal
 finish_of arena out wide narrow = answered (finish_refusal arena out wide narrow) (body_length arena (keys_of arena))
 
 -- the output: the body in front, and the rest as it was; all as it was at a refusal
@@ -100,17 +95,13 @@ abbrev pub space_after : (refusal : ℕ) → List ℕ → List ℕ
 space_after refusal space = cond (eqb refusal 0) (replicate (length space) 0) space
 
 -- what finish commits to: its answer, every byte of the output, every word of both workspaces
-pub record FinishPost (arena out wide narrow : List ℕ) (r : Finished) (out' wide' narrow' : List ℕ) : Type 0 where
+pub record FinishPost (arena out wide narrow : List ℕ) (r : Result ℕ Refusal) (out' wide' narrow' : List ℕ) : Type 0 where
   pub answer : r ≡ finish_of arena (length out) (length wide) (length narrow)
   pub out_after_is : out' ≡ out_after arena out (length wide) (length narrow)
   pub wide_after : wide' ≡ space_after (lengths_refusal arena (length out) (length wide) (length narrow)) wide
   pub narrow_after : narrow' ≡ space_after (lengths_refusal arena (length out) (length wide) (length narrow)) narrow
 
--- the paper's number of an answer, 0 for a body, and the body's length
-abbrev pub finished_number : Finished → ℕ
-finished_number (Body size) = 0
-finished_number (Refused n) = n
-
-abbrev pub finished_values : Finished → List ℕ
-finished_values (Body size) = size ∷ []
-finished_values (Refused n) = []
+-- the values of an answer: the body's length
+abbrev pub finished_values : Result ℕ Refusal → List ℕ
+finished_values (Ok size) = size ∷ []
+finished_values (Err refusal) = []

@@ -3,69 +3,45 @@
 
 ghost use Rattle.std.specs.Prelude.{◌≡◌, ◌+◌, ◌*◌, ◌≤◌, length};
 
-use finish::Finished;
 use numbers::Refusal;
+use records::Arena;
 use std::io;
 use std::io::Print;
 use vectors::{Count, space};
 use words::field;
 
 // The counts of each op, and how many made arenas need more workspace than there is room for.
-#[derive(Drop)]
+#[derive(Default, Drop)]
 pub struct Tally {
     finish: Count,
     made: Count,
     larger: u64,
 }
 
-// Room for a made arena of one key more than finish takes.
-fn arena_room() -> [u8; 2424869]
-    ensures { 2424869 ≡ length result }
-{
-    [0; 2424869]
-}
+// The length of a made arena of one key more than finish takes.
+const ARENA: usize = 2_424_869;
 
-// Room for the u64 workspace of 20,000 keys.
-fn wide_room() -> [u64; 40000]
-    ensures { 40000 ≡ length result }
-{
-    [0xa5; 40000]
-}
+// The u64 workspace of 20,000 keys.
+const WIDE: usize = 40_000;
 
-// Room for their u32 workspace.
-fn narrow_room() -> [u32; 160008]
-    ensures { 160008 ≡ length result }
-{
-    [0xa5; 160008]
-}
+// Their u32 workspace.
+const NARROW: usize = 160_008;
 
 // Whether an answer is this number, with a body of this size; a refusal has none.
-fn answer_is(r: Finished, number: u8, size: usize) -> bool {
+fn answer_is(r: Result<usize, Refusal>, number: u8, size: usize) -> bool {
     match r {
-        Finished::Body(s) => {
-            if number == 0 {
-                return s == size;
-            }
-            false
-        }
-        Finished::Refused(n) => {
-            if size == 0 {
-                return n == number;
-            }
-            false
-        }
+        Ok(s) => number == 0 && s == size,
+        Err(refusal) => size == 0 && refusal.number() == number,
     }
 }
 
 // What the workspace holds after a call: 0 once the lengths are checked, and before that what it held.
 fn left(number: u8) -> u8 {
-    if number == 0 {
-        return 0;
+    if number == 0 || Refusal::Attempts.number() <= number {
+        0
+    } else {
+        space::DIRTY
     }
-    if Refusal::ATTEMPTS <= number {
-        return 0;
-    }
-    space::DIRTY
 }
 
 // Finish, and whether it answers this number and size and leaves the workspace as it should.
@@ -78,43 +54,25 @@ fn run_agrees(
     size: usize,
 ) -> bool {
     let r = finish::finish(arena, out, wide, narrow);
-    if answer_is(r, number, size) {
-        return space::spaces_hold(wide, narrow, left(number));
-    }
-    false
+    answer_is(r, number, size) && space::spaces_hold(wide, narrow, left(number))
 }
 
 // Finish of the arena at 0, and whether all is as stored: u8 number, bytes body stand at `at`.
 fn body_agrees(wide: &mut [u64], narrow: &mut [u32], out: &mut [u8], p: &[u8], at: usize) -> bool {
     let body = vectors::bytes_in(p, vectors::end_in(p, at, 1));
     let number = vectors::u8_in(p, at);
-    if run_agrees(
-        vectors::bytes_in(p, 0),
-        wide,
-        narrow,
-        out,
-        number,
-        body.len(),
-    ) {
-        return space::output_agrees(out, body);
-    }
-    false
+    let arena = vectors::bytes_in(p, 0);
+    run_agrees(arena, wide, narrow, out, number, body.len()) && space::output_agrees(out, body)
 }
 
 // Lends as much as the case says, none more than there is room for.
 fn lend(w: usize, m: usize, o: usize, p: &[u8], answer: usize) -> bool {
-    if 40000 < w {
+    if WIDE < w || NARROW < m || space::LARGEST < o {
         return false;
     }
-    if 160008 < m {
-        return false;
-    }
-    if 1_048_640 < o {
-        return false;
-    }
-    let mut wide = wide_room();
-    let mut narrow = narrow_room();
-    let mut out = space::room(space::DIRTY);
+    let mut wide: [u64; WIDE] = space::room(space::DIRTY as u64);
+    let mut narrow: [u32; NARROW] = space::room(space::DIRTY as u32);
+    let mut out: [u8; space::LARGEST] = space::room(space::DIRTY);
     body_agrees(&mut wide[..w], &mut narrow[..m], &mut out[..o], p, answer)
 }
 
@@ -133,38 +91,18 @@ fn finish_agrees(p: &[u8]) -> bool {
 
 // The key of entry i, as a number: i times 2^40, and 40 mixed bits.
 fn key_of(seed: u64, i: u64) -> u64 {
-    let mixed = mixing::mix(std::num::wrapping_add_u64(seed, i)) % 1_099_511_627_776;
-    std::num::wrapping_add_u64(words::wide::wrapping_mul(i, 1_099_511_627_776), mixed)
-}
-
-// The four bytes of a number in the other order.
-fn reversed(v: u32) -> u32 {
-    v << 24 | (v / 256 % 256) << 16 | (v / 65_536 % 256) << 8 | v / 16_777_216
-}
-
-// Writes a number at `at`, the greatest byte first.
-fn put_reversed(out: &mut [u8], at: usize, v: u64)
-    requires { at + 8 ≤ length out.old }
-{
-    field::put_u32(out, at, reversed((v / 4_294_967_296) as u32));
-    field::put_u32(out, at + 4, reversed((v % 4_294_967_296) as u32));
-}
-
-// Writes the kind of a put at `at`.
-fn put_kind(out: &mut [u8], at: usize)
-    requires { at + 1 ≤ length out.old }
-{
-    out[at] = 1;
+    let mixed = mixing::mix(seed.wrapping_add(i)) % 1_099_511_627_776;
+    i.wrapping_mul(1_099_511_627_776).wrapping_add(mixed)
 }
 
 // Writes the version of entry i at `at`: one put of sequence i + 1, length 8, offset 8i.
 fn put_version(out: &mut [u8], at: usize, i: u64)
     requires { at + 21 ≤ length out.old }
 {
-    field::put_u64(out, at, std::num::wrapping_add_u64(i, 1));
+    field::put_u64(out, at, i.wrapping_add(1));
+    field::put_u8(out, at + 8, 1);
     field::put_u32(out, at + 9, 8);
-    field::put_u64(out, at + 13, words::wide::wrapping_mul(8, i));
-    put_kind(out, at + 8);
+    field::put_u64(out, at + 13, i.wrapping_mul(8));
 }
 
 // Writes entry i at `at`: a key of 8 bytes, and one version.
@@ -173,7 +111,7 @@ fn put_entry(out: &mut [u8], at: usize, seed: u64, i: u64)
 {
     field::put_u32(out, at, 8);
     field::put_u32(out, at + 4, 1);
-    put_reversed(out, at + 8, key_of(seed, i));
+    out[at + 8..at + 16].copy_from_slice(&key_of(seed, i).to_be_bytes());
     put_version(out, at + 16, i);
 }
 
@@ -181,59 +119,47 @@ fn put_entry(out: &mut [u8], at: usize, seed: u64, i: u64)
 fn put_entries(out: &mut [u8], seed: u64, n: usize)
     requires { 37 * n ≤ length out.old }
 {
-    let mut i = 0;
-    while i < n {
+    for i in 0..n {
         put_entry(out, 37 * i, seed, i as u64);
-        i += 1;
     }
 }
 
 // The seed of a body of this size; 0 of none.
 fn seed_of(out: &[u8], size: usize) -> u64 {
     if size == 0 {
-        return 0;
+        0
+    } else {
+        vectors::u64_in(out, 8)
     }
-    vectors::u64_in(out, 8)
 }
 
 // Whether the output is a body of this size with the digest and the seed stored: u64s at 21 and 29.
 fn made_output_agrees(out: &[u8], size: usize, p: &[u8]) -> bool {
-    if seed_of(out, size) != vectors::u64_in(p, 29) {
-        return false;
-    }
-    space::digest_agrees(out, size, vectors::u64_in(p, 21))
+    seed_of(out, size) == vectors::u64_in(p, 29)
+        && space::digest_agrees(out, size, vectors::u64_in(p, 21))
 }
 
 // Finish of a made arena, over all the workspace there is.
 fn made_run(arena: &[u8], out: &mut [u8], p: &[u8]) -> bool {
-    let mut wide = wide_room();
-    let mut narrow = narrow_room();
+    let mut wide: [u64; WIDE] = space::room(space::DIRTY as u64);
+    let mut narrow: [u32; NARROW] = space::room(space::DIRTY as u32);
+    let number = vectors::u8_in(p, 12);
     let size = vectors::u64_in(p, 13) as usize;
-    if run_agrees(
-        arena,
-        &mut wide,
-        &mut narrow,
-        out,
-        vectors::u8_in(p, 12),
-        size,
-    ) {
-        return made_output_agrees(out, size, p);
-    }
-    false
+    run_agrees(arena, &mut wide, &mut narrow, out, number, size) && made_output_agrees(out, size, p)
 }
 
 // The same, over all the output there is.
 fn made_into(arena: &[u8], p: &[u8]) -> bool {
-    let mut out = space::room(space::DIRTY);
+    let mut out: [u8; space::LARGEST] = space::room(space::DIRTY);
     made_run(arena, &mut out, p)
 }
 
 // Finish of the first bytes made.
 fn made_front(made: &[u8], size: usize, p: &[u8]) -> bool {
-    if made.len() < size {
-        return false;
+    match made.get(..size) {
+        Some(arena) => made_into(arena, p),
+        None => false,
     }
-    made_into(&made[..size], p)
 }
 
 // 19: u64 seed, u32 n -> u8 number, u64 body length, u64 digest, u64 the body's seed.
@@ -242,36 +168,24 @@ fn made_agrees(p: &[u8], n: usize) -> bool {
         return false;
     }
     let size = 37 * n;
-    let mut arena = arena_room();
+    let mut arena: [u8; ARENA] = space::room(0);
     put_entries(&mut arena, vectors::u64_in(p, 0), n);
     made_front(&arena, size, p)
 }
 
 // Whether finish takes a made arena of n keys, and there is no room for it.
 fn passes_room(n: usize) -> bool {
-    if n <= 20000 {
-        return false;
-    }
-    n <= Finished::MAX_KEYS
+    20_000 < n && n <= Arena::MAX_KEYS
 }
 
 impl Tally {
-    // No case yet.
-    pub fn new() -> Self {
-        Tally {
-            finish: Count::new(),
-            made: Count::new(),
-            larger: 0,
-        }
-    }
-
     // Replays one case of op 19.
     fn made_one(mut self, p: &[u8]) -> Tally {
         let n = vectors::u32_in(p, 8) as usize;
         if p.len() != 37 {
             self.made = self.made.counted(false);
         } else if passes_room(n) {
-            self.larger = std::num::wrapping_add_u64(self.larger, 1);
+            self.larger = self.larger.wrapping_add(1);
         } else {
             self.made = self.made.counted(made_agrees(p, n));
         }
@@ -281,10 +195,10 @@ impl Tally {
     // Replays the case whose payload is the `bytes` field at a place of the file.
     pub fn replayed(mut self, file: &[u8], op: u8, place: usize) -> Tally {
         let p = vectors::bytes_in(file, place);
-        if op == 0x18 {
-            self.finish = self.finish.counted(finish_agrees(p));
-        } else if op == 0x19 {
-            return self.made_one(p);
+        match op {
+            0x18 => self.finish = self.finish.counted(finish_agrees(p)),
+            0x19 => return self.made_one(p),
+            _ => {}
         }
         self
     }

@@ -1,7 +1,8 @@
--- Laws of asking: the filter's h is a word, and the xor of cells goes from the last position back to the first. Assumes nothing.
-use Rattle.std.proofs.Common.{◌≡◌, ℕ, suc, ◌-◌, ◌^◌, ◌<◌, ◌≤◌, List, length, get_or, drop, refl, ap, ◌∙◌, arith, drop-cons}
-use lib.Bits.{bit_xor}
-use Rattle.fuse.specs.Positions.{positions_of}
+-- Laws of asking: the filter's h is a word, and the xor of cells goes from the first position to the last. Assumes nothing.
+use Rattle.std.proofs.Common.{◌≡◌, ℕ, suc, ◌^◌, ◌<◌, ◌≤◌, List, [], ◌∷◌, ◌+◌, add-one, sym, length, get_or, drop, ◌∙◌, drop-cons}
+use lib.Bits.{bit_xor, xor_zero_r}
+use Rattle.laws.proofs.XorLaws.{xor_assoc}
+use lib.ListN.{drop_of_length-le}
 use Rattle.mixing.specs.Mixing.{mix_of_lt}
 use Rattle.fuse.specs.Asking.{graph_hash, xor_at}
 
@@ -9,17 +10,17 @@ pub graph_lt : (seed hash : ℕ) → graph_hash seed hash < 2 ^ 64
 unfolding graph_hash
 graph_lt seed hash = mix_of_lt _
 
--- past the last position
-pub xor_start : (cells : List ℕ) (segment count h : ℕ) → 0 ≡ xor_at cells (drop 4 (positions_of segment count h))
-unfolding xor_at positions_of
-xor_start cells segment count h = refl
-
--- one position more, from behind
-pub xor_next : (cells ps : List ℕ) (i p x : ℕ) → 0 < i → i ≤ length ps → p ≡ get_or ps (i - 1) 0 → x ≡ xor_at cells (drop i ps)
-    → bit_xor (get_or cells p 0) x ≡ xor_at cells (drop (i - 1) ps)
+-- one cell more
+pub xor_turn : (cells ps : List ℕ) (i x whole : ℕ) → i < length ps → bit_xor x (xor_at cells (drop i ps)) ≡ whole
+    → bit_xor (bit_xor x (get_or cells (get_or ps i 0) 0)) (xor_at cells (drop (i + 1) ps)) ≡ whole
 unfolding xor_at
-xor_next cells ps i p x l b ep ex =
-    let q : i - 1 < length ps = omega arith in
-    let e : i ≡ suc (i - 1) = omega arith in
-    let d : x ≡ xor_at cells (drop (suc (i - 1)) ps) = ex ∙ ap (λ (j : ℕ). xor_at cells (drop j ps)) e in
-    rw (drop-cons ps (i - 1) 0 q, ep, d)
+xor_turn cells ps i x whole l e =
+    let f : bit_xor x (xor_at cells (get_or ps i 0 ∷ drop (suc i) ps)) ≡ whole = rw (drop-cons ps i 0 l) at e in
+    rw add-one (xor_assoc x (get_or cells (get_or ps i 0) 0) (xor_at cells (drop (suc i) ps)) ∙ f)
+
+-- past the last position
+pub xor_end : (cells ps : List ℕ) (i x whole : ℕ) → length ps ≤ i → bit_xor x (xor_at cells (drop i ps)) ≡ whole → x ≡ whole
+unfolding xor_at
+xor_end cells ps i x whole l e =
+    let f : bit_xor x (xor_at cells []) ≡ whole = rw (drop_of_length-le ps l) at e in
+    sym (xor_zero_r x) ∙ f

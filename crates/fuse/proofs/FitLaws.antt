@@ -1,5 +1,5 @@
 -- Laws of the test of sizes: what it passes, as facts. Assumes nothing.
-use Rattle.std.proofs.Common.{◌≡◌, ℕ, ◌+◌, ◌*◌, ◌^◌, ◌<◌, ◌≤◌, Bool, true, false, ◌&&◌, eqb, ltb, leb, sym, lt_of_le_of_lt, mul-le-mul, arith, ltb-true, lt-ltb, eq-eqb, eqb-true, le-leb, leb-true}
+use Rattle.std.proofs.Common.{◌≡◌, ℕ, ◌+◌, ◌^◌, ◌<◌, ◌≤◌, Bool, true, false, ◌&&◌, eqb, ltb, leb, sym, mul-le-mul, arith, ltb-true, lt-ltb, eq-eqb, eqb-true, le-leb, leb-true}
 use mathlib.Core.Bool.{and-eq-true_iff}
 use lib.Count.{ones}
 use Rattle.laws.proofs.Cases.{by_test}
@@ -43,12 +43,6 @@ fitting_accepted s cells e =
       };
     }
 
--- where all but the number of cells is right, that number decides
-pub fitting_last : (s : Sizes) (cells : ℕ) → 1 ≤ s.keys → s.keys < 2 ^ 32 → ones s.segment ≡ 1 → s.segment ≤ 262144 → 1 ≤ s.count
-    → cells_in s.segment s.count < 2 ^ 32 → eqb cells (cells_in s.segment s.count) ≡ fitting s cells
-unfolding fitting
-fitting_last s cells a b c d e f = simp (le-leb _ _ a, lt-ltb _ _ b, eq-eqb _ _ c, le-leb _ _ d, le-leb _ _ e, lt-ltb _ _ f)
-
 -- and what is accepted passes
 pub accepted_fitting : (s : Sizes) (cells : ℕ) → Accepted s cells → fitting s cells ≡ true
 unfolding fitting
@@ -66,15 +60,6 @@ accepted_fitting s cells a =
 -- sizes that lack a fact do not pass
 pub not_fitting : (s : Sizes) (cells : ℕ) → (Accepted s cells → ⊥) → false ≡ fitting s cells
 not_fitting s cells no_way = by_test (fitting s cells) (λ t. absurd (no_way (fitting_accepted s cells t))) (λ t. sym t)
-
--- an accepted segment has one 1
-pub accepted_ones : (s : Sizes) (cells : ℕ) → Accepted s cells → ones s.segment ≡ 1
-accepted_ones s cells a = power_ones s.segment a.fits.usable.power
-
--- the product of a count and a segment that passed fits 64 bits
-pub cells_fit : (count segment : ℕ) → count < 2 ^ 32 → segment ≤ 262144 → (count + 3) * segment < 2 ^ 64
-cells_fit count segment l h =
-    lt_of_le_of_lt (mul-le-mul {n₁ = count + 3} {m₁ = segment} {n₂ = 4294967298} {m₂ = 262144} (omega arith) h) (omega arith)
 
 -- accepted sizes have cells, and a count of 32 bits
 pub cells_some : (segment count : ℕ) → Usable segment count → (0 < cells_in segment count) × (count < 2 ^ 32)

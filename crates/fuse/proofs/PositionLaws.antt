@@ -1,6 +1,6 @@
 -- Laws of the four positions: each lies in a segment of its own, so they are below the cells and pairwise apart. Assumes nothing.
-use Rattle.std.proofs.Common.{◌≡◌, ℕ, zero, suc, ◌+◌, ◌-◌, ◌*◌, ◌/◌, ◌%◌, ◌^◌, ◌<◌, ◌≤◌, [], ◌∷◌, length, get_or, sym, refl, ap, ◌∙◌, subst, ap₂, add-zero, le_of_lt, mul-le-mul_right, mod-lt, mul_comm, div-lt_iff_lt-mul, mul-pos, add_left_cancel, arith, pow_pos}
-use native.Mathlib.Nat.{div-le_of_le-mul, div-eq_of_lt, add-mul-div_right, mul-lt-mul_of_pos_left}
+use Rattle.std.proofs.Common.{◌≡◌, ℕ, zero, suc, ◌+◌, ◌-◌, ◌*◌, ◌/◌, ◌%◌, ◌^◌, ◌<◌, [], ◌∷◌, length, get_or, sym, refl, ap, ◌∙◌, subst, ap₂, add-zero, mod-lt, mul_comm, div-lt_iff_lt-mul, mul-pos, add_left_cancel, arith, pow_pos}
+use native.Mathlib.Nat.{div-eq_of_lt, add-mul-div_right, mul-lt-mul_of_pos_left}
 use lib.Bits.{bit_xor, bit_and, and_mask, xor_shr, xor_zero_r}
 use Rattle.laws.specs.Power.{PowerOfTwo}
 use Rattle.fuse.specs.Positions.{cells_in, Usable, first_cell, cell_of, positions_of}
@@ -63,17 +63,6 @@ unfolding positions_of
 positions_length segment count h = refl
 
 -- ---- as the code computes them
-
--- a is at most count × segment
-first_le : (segment count h : ℕ) → h < 2 ^ 64 → first_cell segment count h ≤ count * segment
-unfolding first_cell
-first_le segment count h b = div-le_of_le-mul (2 ^ 64) {m = h * (count * segment)} {n = count * segment} (mul-le-mul_right (count * segment) (le_of_lt b))
-
--- the sums before the xor fit
-pub sums_fit : (segment count h i : ℕ) → Usable segment count → h < 2 ^ 64 → i < 4 → first_cell segment count h + i * segment < 2 ^ 32
-sums_fit segment count h i u b l =
-    let m : i * segment ≤ 3 * segment = mul-le-mul_right segment (omega arith) in
-    omega (arith, first_le segment count h b, u.small)
 
 pub cell_first : (segment count h i : ℕ) → i ≡ 0 → first_cell segment count h ≡ cell_of segment count h i
 unfolding cell_of

@@ -35,32 +35,17 @@ pub fn put_positive(out: &mut [u8])
 }
 
 // Whether a filter of so many cells can have these sizes.
+#[tactic(auto, unfolding(crate::specs::Layout::fitting))]
 pub fn fits(s: Sizes, cells: usize) -> bool
     ensures { result ≡ fitting s cells }
 {
-    let keys = s.keys;
-    let segment = s.segment;
-    let count = s.count;
-    if keys < 1 {
-        return false;
-    }
-    if Sizes::MAX_KEYS < keys {
-        return false;
-    }
-    if u32::count_ones(segment) != 1 {
-        return false;
-    }
-    if Sizes::MAX_SEGMENT < segment {
-        return false;
-    }
-    if count < 1 {
-        return false;
-    }
-    let whole = Sizes::cells(s);
-    if Sizes::MAX_CELLS < whole {
-        return false;
-    }
-    cells == whole
+    1 <= s.keys
+        && s.keys <= Sizes::MAX_KEYS
+        && s.segment.count_ones() == 1
+        && s.segment <= Sizes::MAX_SEGMENT
+        && 1 <= s.count
+        && s.cells() <= Sizes::MAX_CELLS
+        && s.cells() == cells
 }
 
 // Puts the header of a Fuse filter in front.
@@ -68,7 +53,7 @@ pub fn put_header(out: &mut [u8], s: Sizes)
     requires { (48 ≤ length out.old) × (cells_in s.segment s.count < 2 ^ 32) }
     ensures { out.new ≡ splice out.old 0 (fuse_header s) }
 {
-    let cells = Sizes::cells(s) as u32;
+    let cells = s.cells() as u32;
     field::put_u64(out, 0, MAGIC);
     field::put_u64(out, 8, FUSE);
     field::put_u64(out, 16, s.keys);
@@ -94,15 +79,11 @@ pub fn sizes_at(bytes: &[u8]) -> Sizes
     requires { 48 ≤ length bytes.now }
     ensures { result ≡ sizes_in bytes.now }
 {
-    let keys = field::u64_at(bytes, 16);
-    let seed = field::u64_at(bytes, 24);
-    let segment = field::u32_at(bytes, 32);
-    let count = field::u32_at(bytes, 36);
     Sizes {
-        keys,
-        seed,
-        segment,
-        count,
+        keys: field::u64_at(bytes, 16),
+        seed: field::u64_at(bytes, 24),
+        segment: field::u32_at(bytes, 32),
+        count: field::u32_at(bytes, 36),
     }
 }
 
@@ -111,10 +92,5 @@ pub fn is_fuse(bytes: &[u8], s: Sizes) -> bool
     requires { 48 ≤ length bytes.now }
     ensures { result ≡ fuse_laid bytes.now s }
 {
-    if fits(s, bytes.len() - Sizes::HEADER) {
-        let h = header(s);
-        part::same(&bytes[..Sizes::HEADER], &h)
-    } else {
-        false
-    }
+    fits(s, bytes.len() - Sizes::HEADER) && part::same(&bytes[..Sizes::HEADER], &header(s))
 }

@@ -27,11 +27,11 @@ impl Sizes {
     pub const MAX_CELLS: usize = 0xffff_ffff;
 
     // The number of cells: there are 3 segments more than the count.
-    pub fn cells(s: Sizes) -> usize
-        requires { cells_in s.segment s.count < 2 ^ 64 }
-        ensures { result ≡ cells_in s.segment s.count }
+    pub fn cells(self) -> usize
+        requires { cells_in self.segment self.count < 2 ^ 64 }
+        ensures { result ≡ cells_in self.segment self.count }
     {
-        (s.count as usize + 3) * s.segment as usize
+        (self.count as usize + 3) * self.segment as usize
     }
 }
 
@@ -53,11 +53,12 @@ pub fn positions(segment: usize, count: usize, h: u64) -> [usize; 4]
     requires { Usable segment count }
     ensures { result ≡ positions_of segment count h }
 {
-    let a = cell(segment, count, h, 0);
-    let b = cell(segment, count, h, 1);
-    let c = cell(segment, count, h, 2);
-    let d = cell(segment, count, h, 3);
-    [a, b, c, d]
+    [
+        cell(segment, count, h, 0),
+        cell(segment, count, h, 1),
+        cell(segment, count, h, 2),
+        cell(segment, count, h, 3),
+    ]
 }
 
 // The xor of the four cells of the hash h.
@@ -66,11 +67,8 @@ pub fn xor_cells(cells: &[u8], segment: usize, count: usize, h: u64) -> u8
     ensures { result ≡ xor_at cells.now (positions_of segment count h) }
 {
     let mut x = 0;
-    let mut i = 4;
-    while 0 < i {
-        i -= 1;
-        let p = cell(segment, count, h, i);
-        x = cells[p] ^ x;
+    for p in positions(segment, count, h) {
+        x ^= cells[p];
     }
     x
 }
@@ -79,7 +77,7 @@ pub fn xor_cells(cells: &[u8], segment: usize, count: usize, h: u64) -> u8
 pub fn graph_hash(seed: u64, hash: u64) -> u64
     ensures { result ≡ graph_hash seed hash }
 {
-    mixing::mix(std::num::wrapping_add_u64(hash, seed))
+    mixing::mix(hash.wrapping_add(seed))
 }
 
 // Whether a hash is present: its four cells xor to the low byte of its h.

@@ -1,18 +1,16 @@
 // Replays the vectors of the filter's reading side: ops 04 positions, 05 sizing, 32 filter, 33 read and ask.
 #![tactic(auto)]
 
-ghost use Rattle.std.specs.Prelude.{◌≡◌, length};
-
 use filter::{Asked, SstFilter};
 use fuse::{Sizes, header};
 use numbers::Refusal;
 use sizing::Plan;
 use std::io;
 use std::io::Print;
-use vectors::Count;
+use vectors::{Count, space};
 
 // The counts of each op; and where the base filter stands in the file, a `bytes` field.
-#[derive(Drop)]
+#[derive(Default, Drop)]
 pub struct Tally {
     positions: Count,
     sizing: Count,
@@ -22,18 +20,12 @@ pub struct Tally {
 
 // Whether position i of h is the u32 that stands at 16 + 4i.
 fn position_agrees(p: &[u8], s: Sizes, cells: usize, i: usize) -> bool {
-    if i < 4 {
-        if header::fits(s, cells) {
-            let at = fuse::cell(
-                s.segment as usize,
-                s.count as usize,
-                vectors::u64_in(p, 0),
-                i,
-            );
-            return at == vectors::u32_in(p, 16 + 4 * i) as usize;
-        }
+    if 4 <= i || !header::fits(s, cells) {
+        return false;
     }
-    false
+    let h = vectors::u64_in(p, 0);
+    let at = fuse::cell(s.segment as usize, s.count as usize, h, i);
+    at == vectors::u32_in(p, 16 + 4 * i) as usize
 }
 
 // 04: u64 h, u32 segment, u32 count -> four u32.
@@ -47,15 +39,8 @@ fn positions_agree(p: &[u8]) -> bool {
         segment: vectors::u32_in(p, 8),
         count: vectors::u32_in(p, 12),
     };
-    let cells = words::wide::wrapping_mul(s.count as u64 + 3, s.segment as u64) as usize;
-    let mut i = 0;
-    while i < 4 {
-        if !position_agrees(p, s, cells, i) {
-            return false;
-        }
-        i += 1;
-    }
-    true
+    let cells = (s.count as u64 + 3).wrapping_mul(s.segment as u64) as usize;
+    (0..4).all(|i| position_agrees(p, s, cells, i))
 }
 
 // 05: u32 n -> u32 segment, u32 segments, u32 cells.
@@ -67,28 +52,20 @@ fn sizing_agrees(p: &[u8]) -> bool {
         return false;
     };
     let segments = s.count as u64 + 3;
-    if s.segment != vectors::u32_in(p, 4) {
-        return false;
-    }
-    if segments != vectors::u32_in(p, 8) as u64 {
-        return false;
-    }
-    words::wide::wrapping_mul(segments, s.segment as u64) == vectors::u32_in(p, 12) as u64
+    s.segment == vectors::u32_in(p, 4)
+        && segments == vectors::u32_in(p, 8) as u64
+        && segments.wrapping_mul(s.segment as u64) == vectors::u32_in(p, 12) as u64
 }
 
-// Room for the longest filter of the stored cases, on the stack.
-fn room() -> [u8; 2097200]
-    ensures { 2097200 ≡ length result }
-{
-    [0; 2097200]
-}
+// The longest filter of the stored cases.
+const LONGEST: usize = 2_097_200;
 
 // The number of what was read.
 fn read_number(bytes: &[u8]) -> u8 {
     match filter::read(bytes) {
         SstFilter::Positive => 0,
         SstFilter::Fuse(_) => 0,
-        SstFilter::Refused => Refusal::FILTER,
+        SstFilter::Refused => Refusal::Filter.number(),
     }
 }
 
@@ -97,7 +74,7 @@ fn ask_number(bytes: &[u8], hash: u64) -> u8 {
     match filter::ask(bytes, hash) {
         Asked::Absent => 0,
         Asked::Maybe => 1,
-        Asked::Refused => Refusal::FILTER,
+        Asked::Refused => Refusal::Filter.number(),
     }
 }
 
@@ -111,19 +88,14 @@ fn answers_agree(bytes: &[u8], p: &[u8]) -> bool {
     if read_number(bytes) != vectors::u8_in(p, number) {
         return false;
     }
-    let mut i = 0;
-    while i < m {
-        if ask_number(bytes, vectors::u64_in(p, 4 + 8 * i)) != vectors::u8_in(p, number + 1 + i) {
-            return false;
-        }
-        i += 1;
-    }
-    true
+    (0..m).all(|i| {
+        ask_number(bytes, vectors::u64_in(p, 4 + 8 * i)) == vectors::u8_in(p, number + 1 + i)
+    })
 }
 
 // 33: patched filter, then the hashes and their answers.
 fn asked_agrees(base: &[u8], p: &[u8]) -> bool {
-    let mut bytes = room();
+    let mut bytes: [u8; LONGEST] = space::room(0);
     let size = vectors::patch::patched(base, p, &mut bytes);
     if size != vectors::u32_in(p, 0) as usize {
         return false;
@@ -133,30 +105,16 @@ fn asked_agrees(base: &[u8], p: &[u8]) -> bool {
 }
 
 impl Tally {
-    // No case yet.
-    pub fn new() -> Self {
-        Tally {
-            positions: Count::new(),
-            sizing: Count::new(),
-            asked: Count::new(),
-            base: 0,
-        }
-    }
-
     // Replays the case whose payload is the `bytes` field at a place of the file.
     pub fn replayed(mut self, file: &[u8], op: u8, place: usize) -> Tally {
         let p = vectors::bytes_in(file, place);
-        let base = self.base;
-        if op == 4 {
-            self.positions = self.positions.counted(positions_agree(p));
-        } else if op == 5 {
-            self.sizing = self.sizing.counted(sizing_agrees(p));
-        } else if op == 0x32 {
-            self.base = vectors::end_in(file, place, 4);
-        } else if op == 0x33 {
-            self.asked = self
-                .asked
-                .counted(asked_agrees(vectors::bytes_in(file, base), p));
+        let base = vectors::bytes_in(file, self.base);
+        match op {
+            4 => self.positions = self.positions.counted(positions_agree(p)),
+            5 => self.sizing = self.sizing.counted(sizing_agrees(p)),
+            0x32 => self.base = vectors::end_in(file, place, 4),
+            0x33 => self.asked = self.asked.counted(asked_agrees(base, p)),
+            _ => {}
         }
         self
     }

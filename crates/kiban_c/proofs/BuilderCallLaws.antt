@@ -1,4 +1,7 @@
 -- What the boundary's checks leave of a call of add and of set offset. Assumes nothing.
+use Rattle.std.specs.Prelude.{Result}
+use Rattle.numbers.specs.Numbers.{number_of}
+use Rattle.numbers.specs.declared.Refusal.{Refusal}
 use Prim.Native.Nat.{ℕ, ◌<◌, ◌≤◌}
 use native.Mathlib.Omega.{arith}
 use mathlib.Core.Path.{◌≡◌, refl, sym, ap, ◌∙◌}
@@ -12,10 +15,9 @@ use Rattle.records.specs.declared.Kind.{Kind}
 use Rattle.records.specs.Places.{kind_of}
 use Rattle.records.specs.Rules.{bad_kind}
 use Rattle.builder.specs.declared.PointBuilder.{PointBuilder}
-use Rattle.builder.specs.declared.Added.{Added}
-use Rattle.builder.specs.declared.OffsetSet.{OffsetSet}
-use Rattle.builder.specs.Add.{added_number, state_values, added_values, AddPost}
-use Rattle.builder.specs.SetOffset.{set_number, SetPost}
+use Rattle.builder.specs.Add.{Added}
+use Rattle.builder.specs.Add.{state_values, added_values, AddPost}
+use Rattle.builder.specs.SetOffset.{SetPost}
 use Rattle.kiban_c.specs.BuilderCalls.{state_of, flag_of, add_checks, add_called, AddCall, set_offset_checks, SetOffsetCall}
 use Rattle.kiban_c.proofs.LentLaws.{first_number, first_left, none_number, none_left}
 
@@ -46,12 +48,12 @@ module _ {buffer state key : List ℕ} {kind size sequence new_key : ℕ} {answe
   pub add_made : {s : PointBuilder} {known : Kind} {given r : Added} {buffer' state' answer' : List ℕ} → None (add_checks state kind answer)
       → s ≡ state_of state → known ≡ kind_of kind → AddPost s buffer (record { key = key; kind = known; size = size; sequence = sequence; new_key = flag_of new_key }) given buffer' → given ≡ r
       → state' ≡ splice state 0 (state_values r) → answer' ≡ splice answer 0 (added_values r)
-      → AddCall buffer state key kind size sequence new_key answer (added_number r) buffer' state' answer'
+      → AddCall buffer state key kind size sequence new_key answer (number_of r) buffer' state' answer'
   add_made {s} {known} {given} {r} c se ke p g ws av =
       let q = rw (se, ke) at p in
       let e : r ≡ add_called buffer state key kind size sequence new_key = sym g ∙ q.answer in
       record {
-        number = ap added_number e ∙ none_number c _;
+        number = ap number_of e ∙ none_number c _;
         buffer_after = q.buffer ∙ none_left c _ _;
         state_after = ws ∙ ap (λ (z : Added). splice state 0 (state_values z)) e ∙ none_left c _ _;
         answer_after = av ∙ ap (λ (z : Added). splice answer 0 (added_values z)) e ∙ none_left c _ _;
@@ -72,8 +74,8 @@ module _ {buffer state : List ℕ} {place offset : ℕ} where
       let f = set_stateless state h in
       record { number = first_number f (omega arith) _; buffer_after = first_left f (omega arith) _ _ }
 
-  pub set_made : {s : PointBuilder} {given r : OffsetSet} {buffer' : List ℕ} → 3 ≤ length state → s ≡ state_of state → SetPost s buffer place offset given buffer' → given ≡ r
-      → SetOffsetCall buffer state place offset (set_number r) buffer'
+  pub set_made : {s : PointBuilder} {given r : Result (Unit {0}) Refusal} {buffer' : List ℕ} → 3 ≤ length state → s ≡ state_of state → SetPost s buffer place offset given buffer' → given ≡ r
+      → SetOffsetCall buffer state place offset (number_of r) buffer'
   set_made h se p g =
       let q = rw se at p in
-      record { number = ap set_number (sym g ∙ q.answer) ∙ none_number (set_passed state h) _; buffer_after = q.buffer ∙ none_left (set_passed state h) _ _ }
+      record { number = ap number_of (sym g ∙ q.answer) ∙ none_number (set_passed state h) _; buffer_after = q.buffer ∙ none_left (set_passed state h) _ _ }

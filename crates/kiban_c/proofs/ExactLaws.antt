@@ -1,5 +1,9 @@
 -- The boundary's own refusals: 6, 1 and 28 exactly for their causes, in this order and before the call's own, and a refused call leaves what
 -- is lent to it, except zeroed workspace. Assumes nothing.
+use Rattle.numbers.specs.declared.Refusal.TheVariants.{Buffer, Damage}
+use Rattle.std.specs.Prelude.{Err, Ok, Result}
+use Rattle.numbers.specs.Numbers.{number_of}
+use Rattle.numbers.specs.declared.Refusal.{Refusal}
 use Prim.Native.Nat.{ℕ, zero, suc, ◌+◌, ◌<◌, ◌≤◌}
 use native.Mathlib.Omega.{arith}
 use mathlib.Core.Path.{◌≡◌, refl, sym, ap, ◌∙◌}
@@ -15,17 +19,12 @@ use Rattle.laws.specs.Refusals.{Cause, first_of, or_else, First, here, later}
 use Rattle.words.specs.Field.{splice}
 use Rattle.records.specs.Rules.{bad_kind}
 use Rattle.builder.specs.declared.PointBuilder.{PointBuilder}
-use Rattle.builder.specs.declared.Added.{Added}
-use Rattle.builder.specs.declared.Added.TheVariants as added
-use Rattle.builder.specs.declared.OffsetSet.{OffsetSet}
-use Rattle.builder.specs.declared.OffsetSet.TheVariants as offset-set
+use Rattle.builder.specs.Add.{Added}
 use Rattle.builder.specs.State.{last_of, room_of}
-use Rattle.builder.specs.Add.{Call, new_causes, continued_causes, taking_causes, add_causes, added_number, state_values, added_values, add_of, buffer_after_add}
-use Rattle.builder.specs.SetOffset.{set_of, buffer_after_set, set_number}
+use Rattle.builder.specs.Add.{Call, new_causes, continued_causes, taking_causes, add_causes, state_values, added_values, add_of, buffer_after_add}
+use Rattle.builder.specs.SetOffset.{set_of, buffer_after_set}
 use Rattle.builder.proofs.Answers.{add_refuses, add_refuses_only, set_refuses, set_refuses_only}
-use Rattle.finish.specs.declared.Finished.{Finished}
-use Rattle.finish.specs.declared.Finished.TheVariants as finished
-use Rattle.finish.specs.Finish.{lengths_refusal, finish_refusal, finish_of, out_after, space_after, finished_number, finished_values}
+use Rattle.finish.specs.Finish.{lengths_refusal, finish_refusal, finish_of, out_after, space_after, finished_values}
 use Rattle.finish.proofs.RowLaws.{splice_none}
 use Rattle.finish.proofs.Answers.{finish_number}
 use Rattle.records.specs.declared.Within.{Within}
@@ -38,9 +37,8 @@ use Rattle.filter.specs.declared.SstFilter.TheVariants as read
 use Rattle.filter.specs.declared.Built.{Built}
 use Rattle.filter.specs.declared.Built.TheVariants as built
 use Rattle.filter.specs.Reading.{read_of, read_refusal, read_values}
-use Rattle.filter.specs.Building.{built_refusal, built_values, hashes_by, space_by, out_by}
-use Rattle.lines.specs.declared.Listed.TheVariants.{Text, Refused}
-use Rattle.lines.specs.Listing.{listed_of, buffer_of, listed_number, listed_values}
+use Rattle.filter.specs.Building.{built_values, hashes_by, space_by, out_by}
+use Rattle.lines.specs.Listing.{listed_of, buffer_of, listed_values}
 use Rattle.kiban_c.specs.Lent.{answer_short, number_by, left_by, SixFirst}
 use Rattle.kiban_c.specs.SortCalls.{SortCall}
 use Rattle.kiban_c.specs.BuilderCalls.{state_of, call_given, add_called, AddCall, SetOffsetCall}
@@ -102,13 +100,13 @@ module _ (s : PointBuilder) (buffer : List ℕ) (call : Call) where
   unfolding add_causes taking_causes
   own_below f = first_below (each_more (lit< tt) (each_more (lit< tt) (each_more (lit< tt) (each_more (lit< tt) (key_below call.new_key))))) f
 
-  own_kind : (a : Added) → add_of s buffer call ≡ a → added_number a ≡ 28 → ⊥
-  own_kind (added.Taken next place) e z = omega arith
-  own_kind (added.Refused n) e z = omega (arith, own_below (add_refuses_only s buffer call e))
+  own_kind : (a : Added) → add_of s buffer call ≡ a → number_of a ≡ 28 → ⊥
+  own_kind (Ok (next, place)) e z = omega arith
+  own_kind (Err n) e z = omega (arith, own_below (add_refuses_only s buffer call e))
 
-  add_kept : (a : Added) → add_of s buffer call ≡ a → 0 < added_number a → (buffer_after_add s buffer call ≡ buffer) × (state_values a ≡ []) × (added_values a ≡ [])
-  add_kept (added.Taken next place) e o = absurd (omega arith)
-  add_kept (added.Refused n) e o = ((add_refuses s buffer call (add_refuses_only s buffer call e)).1, refl, refl)
+  add_kept : (a : Added) → add_of s buffer call ≡ a → 0 < number_of a → (buffer_after_add s buffer call ≡ buffer) × (state_values a ≡ []) × (added_values a ≡ [])
+  add_kept (Ok (next, place)) e o = absurd (omega arith)
+  add_kept (Err n) e o = ((add_refuses s buffer call (add_refuses_only s buffer call e)).1, refl, refl)
 
 -- another kind, by the kinds that there are
 other_kind : (kind : ℕ) → (kind ≡ 1 → ⊥) → (kind ≡ 2 → ⊥) → bad_kind kind ≡ true
@@ -133,7 +131,7 @@ module _ {buffer state key answer : List ℕ} {kind size sequence new_key r : �
   add_kind_other a s one two = P.number ∙ sym (first_number (add_kindless state kind answer a s (other_kind kind one two)) (omega arith) _)
 
   -- THEOREM: and else what add answers
-  pub add_own : 1 ≤ length answer → 3 ≤ length state → (kind ≡ 1) ⊎ (kind ≡ 2) → r ≡ added_number (add_called buffer state key kind size sequence new_key)
+  pub add_own : 1 ≤ length answer → 3 ≤ length state → (kind ≡ 1) ⊎ (kind ≡ 2) → r ≡ number_of (add_called buffer state key kind size sequence new_key)
   add_own a s k = P.number ∙ sym (none_number (add_passed state kind answer a s (one_kind kind k)) _)
 
   -- THEOREM: 28 for another kind alone
@@ -158,9 +156,9 @@ module _ {buffer state key answer : List ℕ} {kind size sequence new_key r : �
 
 -- ---- set offset
 
-set_kept : (s : PointBuilder) (buffer : List ℕ) (place offset : ℕ) (a : OffsetSet) → set_of s buffer place ≡ a → 0 < set_number a → buffer_after_set s buffer place offset ≡ buffer
-set_kept s buffer place offset offset-set.Set e o = absurd (omega arith)
-set_kept s buffer place offset (offset-set.Refused n) e o = (set_refuses s buffer place offset (set_refuses_only s buffer place offset e)).1
+set_kept : (s : PointBuilder) (buffer : List ℕ) (place offset : ℕ) (a : Result (Unit {0}) Refusal) → set_of s buffer place ≡ a → 0 < number_of a → buffer_after_set s buffer place offset ≡ buffer
+set_kept s buffer place offset (Ok u) e o = absurd (omega arith)
+set_kept s buffer place offset (Err n) e o = (set_refuses s buffer place offset (set_refuses_only s buffer place offset e)).1
 
 module _ {buffer state : List ℕ} {place offset r : ℕ} {buffer' : List ℕ} (P : SetOffsetCall buffer state place offset r buffer') where
   -- THEOREM: 1 first, for a state under three words
@@ -168,7 +166,7 @@ module _ {buffer state : List ℕ} {place offset r : ℕ} {buffer' : List ℕ} (
   set_offset_state_short h = P.number ∙ sym (first_number (set_stateless state h) (omega arith) _)
 
   -- THEOREM: and else what set offset answers
-  pub set_offset_own : 3 ≤ length state → r ≡ set_number (set_of (state_of state) buffer place)
+  pub set_offset_own : 3 ≤ length state → r ≡ number_of (set_of (state_of state) buffer place)
   set_offset_own h = P.number ∙ sym (none_number (set_passed state h) _)
 
   -- THEOREM: a refused call leaves the buffer
@@ -178,11 +176,11 @@ module _ {buffer state : List ℕ} {place offset r : ℕ} {buffer' : List ℕ} (
 
 -- ---- finish
 
-no_length : (f : Finished) → 0 < finished_number f → finished_values f ≡ []
-no_length (finished.Body size) o = absurd (omega arith)
-no_length (finished.Refused n) o = refl
+no_length : (f : Result ℕ Refusal) → 0 < number_of f → finished_values f ≡ []
+no_length (Ok size) o = absurd (omega arith)
+no_length (Err n) o = refl
 
-finish_kept : (arena out : List ℕ) (wide narrow : ℕ) → 0 < finished_number (finish_of arena (length out) wide narrow) → out_after arena out wide narrow ≡ out
+finish_kept : (arena out : List ℕ) (wide narrow : ℕ) → 0 < number_of (finish_of arena (length out) wide narrow) → out_after arena out wide narrow ≡ out
 unfolding out_after
 finish_kept arena out wide narrow o =
     let n = finish_number arena (length out) wide narrow in
@@ -201,7 +199,7 @@ zeroed checks refusal space after p = go (eqb (first_of checks) 0) (eqb refusal 
 
 module _ {arena out wide narrow answer : List ℕ} {r : ℕ} {out' wide' narrow' answer' : List ℕ} (P : FinishCall arena out wide narrow answer r out' wide' narrow' answer') where
   -- THEOREM: 6 for an answer under one word, and else finish's own number
-  pub finish_answer_short : SixFirst answer 1 (finished_number (finish_called arena out wide narrow)) r
+  pub finish_answer_short : SixFirst answer 1 (number_of (finish_called arena out wide narrow)) r
   finish_answer_short = six_first P.number
 
   -- THEOREM: a refused call leaves output and answer, and workspace as it was or zero
@@ -224,7 +222,7 @@ get_never_six : (size : ℕ) (w : Within) → answer_number (answer_of size w) �
 unfolding answer_of
 get_never_six size (within.Found v) z = go (ltb size (v.offset + v.length)) z
   where
-    go : (b : Bool) → answer_number (cond b (answered.Refused 14) (answered.Found v)) ≡ 6 → ⊥
+    go : (b : Bool) → answer_number (cond b (answered.Refused Damage) (answered.Found v)) ≡ 6 → ⊥
     go true e = omega arith
     go false e = omega arith
 get_never_six size within.Nothing z = omega arith
@@ -245,15 +243,15 @@ module _ {body bytes key answer : List ℕ} {limited limit r : ℕ} {answer' : L
 
 -- ---- filter build
 
-no_bytes : (b : Built) → 0 < built_refusal b → (built_values b ≡ []) × ((hashes : List ℕ) → hashes_by b hashes ≡ hashes) × ((space : List ℕ) → space_by b space ≡ space) × ((hashes out : List ℕ) → out_by b hashes out ≡ out)
-no_bytes built.Positive o = absurd (omega arith)
-no_bytes (built.Fuse s) o = absurd (omega arith)
-no_bytes (built.Refused n) o = (refl, λ hashes. refl, λ space. refl, λ hashes out. refl)
+no_bytes : (b : Result Built Refusal) → 0 < number_of b → (built_values b ≡ []) × ((hashes : List ℕ) → hashes_by b hashes ≡ hashes) × ((space : List ℕ) → space_by b space ≡ space) × ((hashes out : List ℕ) → out_by b hashes out ≡ out)
+no_bytes (Ok built.Positive) o = absurd (omega arith)
+no_bytes (Ok (built.Fuse s)) o = absurd (omega arith)
+no_bytes (Err n) o = (refl, λ hashes. refl, λ space. refl, λ hashes out. refl)
 
 module _ {hashes wide narrow out answer : List ℕ} {r : ℕ} {hashes' wide' narrow' out' answer' : List ℕ}
     (P : FilterBuildCall hashes wide narrow out answer r hashes' wide' narrow' out' answer') where
   -- THEOREM: 6 for an answer under one word, and else build's own number
-  pub filter_build_answer_short : SixFirst answer 1 (built_refusal (build_called hashes wide narrow out)) r
+  pub filter_build_answer_short : SixFirst answer 1 (number_of (build_called hashes wide narrow out)) r
   filter_build_answer_short = six_first P.number
 
   -- THEOREM: a refused call leaves everything
@@ -305,17 +303,17 @@ module _ {bytes hashes answers : List ℕ} {r : ℕ} {answers' : List ℕ} (P : 
 
 -- ---- listing
 
-listing_kept : (text out : List ℕ) → 0 < listed_number (listed_of text out) → (buffer_of text out ≡ out) × (listed_values (listed_of text out) ≡ [])
+listing_kept : (text out : List ℕ) → 0 < number_of (listed_of text out) → (buffer_of text out ≡ out) × (listed_values (listed_of text out) ≡ [])
 unfolding listed_of buffer_of
 listing_kept text out o = go (leb (length text) (length out)) o
   where
-    go : (b : Bool) → 0 < listed_number (cond b (Text (length text)) (Refused 6)) → (cond b (splice out 0 text) out ≡ out) × (listed_values (cond b (Text (length text)) (Refused 6)) ≡ [])
+    go : (b : Bool) → 0 < number_of (cond b (Ok (length text)) (Err Buffer)) → (cond b (splice out 0 text) out ≡ out) × (listed_values (cond b (Ok (length text)) (Err Buffer)) ≡ [])
     go true q = absurd (omega arith)
     go false q = (refl, refl)
 
 module _ {input out answer : List ℕ} {r : ℕ} {out' answer' : List ℕ} (P : ListingCall input out answer r out' answer') where
   -- THEOREM: 6 for an answer under one word, and else the listing's own number
-  pub listing_answer_short : SixFirst answer 1 (listed_number (listing_called input out)) r
+  pub listing_answer_short : SixFirst answer 1 (number_of (listing_called input out)) r
   listing_answer_short = six_first P.number
 
   -- THEOREM: a refused call leaves output and answer

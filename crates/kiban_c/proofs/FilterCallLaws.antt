@@ -1,4 +1,8 @@
 -- What the boundary's checks leave of the calls of the filter; what stands in front of the answers while they are asked. Assumes nothing.
+use Rattle.numbers.specs.declared.Refusal.{Refusal}
+use Rattle.std.specs.Prelude.{Result}
+use Rattle.std.specs.Prelude.{Ok}
+use Rattle.numbers.specs.Numbers.{number_of}
 use mathlib.Core.Path.{◌≡◌, refl, sym, ap, ap₂, ◌∙◌}
 use mathlib.Core.List.{List, [], ◌∷◌, ◌++◌, map}
 use Prim.Native.Nat.{ℕ, ◌+◌, ◌-◌, ◌*◌, ◌^◌, ◌≤◌, ◌<◌}
@@ -16,7 +20,7 @@ use Rattle.filter.specs.declared.Built.{Built}
 use Rattle.filter.specs.declared.Built.TheVariants as built
 use Rattle.filter.specs.Reading.{read_of, read_refusal, read_values}
 use Rattle.filter.specs.Asking.{ask_cells_of, ask_of, ask_number}
-use Rattle.filter.specs.Building.{BuildPost, built_refusal, built_values}
+use Rattle.filter.specs.Building.{BuildPost, built_values}
 use Rattle.filter.proofs.ReadLaws.{fuse_accepted}
 use Rattle.filter.proofs.AskLaws.{ask_positive}
 use Rattle.filter.proofs.BuiltLaws.{built_usable}
@@ -41,24 +45,24 @@ module _ {hashes wide narrow out answer : List ℕ} where
         answer_after = first_left f p _ _;
       }
 
-  pub build_made : {given r : Built} {hashes' wide' narrow' out' answer' : List ℕ} → 1 ≤ length answer → BuildPost hashes wide narrow out given hashes' wide' narrow' out' → given ≡ r
-      → answer' ≡ splice answer 0 (built_values r) → FilterBuildCall hashes wide narrow out answer (built_refusal r) hashes' wide' narrow' out' answer'
+  pub build_made : {given r : Result Built Refusal} {hashes' wide' narrow' out' answer' : List ℕ} → 1 ≤ length answer → BuildPost hashes wide narrow out given hashes' wide' narrow' out' → given ≡ r
+      → answer' ≡ splice answer 0 (built_values r) → FilterBuildCall hashes wide narrow out answer (number_of r) hashes' wide' narrow' out' answer'
   build_made h p g av =
       let c = enough answer 1 h in
       let e = sym g ∙ p.answer in
       record {
-        number = ap built_refusal e ∙ none_number c _;
+        number = ap number_of e ∙ none_number c _;
         hashes_after = p.hashes_after ∙ none_left c _ _;
         wide_after = p.wide_after ∙ none_left c _ _;
         narrow_after = p.narrow_after ∙ none_left c _ _;
         out_after_is = p.out_after_is ∙ none_left c _ _;
-        answer_after = av ∙ ap (λ (z : Built). splice answer 0 (built_values z)) e ∙ none_left c _ _;
+        answer_after = av ∙ ap (λ (z : Result Built Refusal). splice answer 0 (built_values z)) e ∙ none_left c _ _;
       }
 
 -- the cells of what was built are few
-pub cells_small : {hashes wide narrow out : List ℕ} {r : Built} {hashes' wide' narrow' out' : List ℕ} → BuildPost hashes wide narrow out r hashes' wide' narrow' out' → (s : Sizes) → r ≡ built.Fuse s
+pub cells_small : {hashes wide narrow out : List ℕ} {r : Result Built Refusal} {hashes' wide' narrow' out' : List ℕ} → BuildPost hashes wide narrow out r hashes' wide' narrow' out' → (s : Sizes) → r ≡ Ok (built.Fuse s)
     → (s.count + 3) * s.segment < 2 ^ 32
-cells_small p s e = (built_usable p (λ q z. let k : ◌≡◌ {A = ℕ} 0 1 = cc in omega arith) s e).small
+cells_small p s e = (built_usable p s e).small
 
 -- ---- reading
 

@@ -5,7 +5,7 @@ use mathlib.Core.Path.{◌≡◌, sym, ap, ◌∙◌}
 use mathlib.Core.List.{List}
 use lib.ListN.{length}
 use Rattle.words.specs.Field.{splice}
-use Rattle.records.specs.declared.Limit.{Limit}
+use Rattle.records.specs.Limits.{Limit}
 use Rattle.point.specs.declared.Answer.{Answer}
 use Rattle.point.specs.Get.{get_of, answer_number, answer_values}
 use Rattle.kiban_c.specs.PointCalls.{limit_given, GetCall}

@@ -1,12 +1,13 @@
 -- The builder at the boundary: the state is three words (used, keys, head), the answer one (place).
+use Rattle.numbers.specs.Numbers.{number_of}
 use Rattle.std.specs.Prelude.{ℕ, ◌≡◌, Bool, not, List, [], ◌∷◌, eqb, get_or}
 use Rattle.laws.specs.Refusals.{Cause}
 use Rattle.words.specs.Field.{splice}
 use Rattle.records.specs.Places.{kind_of}
 use Rattle.builder.specs.declared.PointBuilder.{PointBuilder}
-use Rattle.builder.specs.declared.Added.{Added}
-use Rattle.builder.specs.Add.{Call, add_of, buffer_after_add, added_number, state_values, added_values}
-use Rattle.builder.specs.SetOffset.{set_of, buffer_after_set, set_number}
+use Rattle.builder.specs.Add.{Added}
+use Rattle.builder.specs.Add.{Call, add_of, buffer_after_add, state_values, added_values}
+use Rattle.builder.specs.SetOffset.{set_of, buffer_after_set}
 use Rattle.kiban_c.specs.Lent.{answer_short, state_short, kind_other, number_by, left_by}
 
 -- the state that words hold
@@ -36,7 +37,7 @@ add_buffer buffer state key kind size sequence new_key = buffer_after_add (state
 
 -- what kiban_add commits to: the number, and every lent byte and word
 pub record AddCall (buffer state key : List ℕ) (kind size sequence new_key : ℕ) (answer : List ℕ) (r : ℕ) (buffer' state' answer' : List ℕ) : Type 0 where
-  pub number : r ≡ number_by (add_checks state kind answer) (added_number (add_called buffer state key kind size sequence new_key))
+  pub number : r ≡ number_by (add_checks state kind answer) (number_of (add_called buffer state key kind size sequence new_key))
   pub buffer_after : buffer' ≡ left_by (add_checks state kind answer) buffer (add_buffer buffer state key kind size sequence new_key)
   pub state_after : state' ≡ left_by (add_checks state kind answer) state (splice state 0 (state_values (add_called buffer state key kind size sequence new_key)))
   pub answer_after : answer' ≡ left_by (add_checks state kind answer) answer (splice answer 0 (added_values (add_called buffer state key kind size sequence new_key)))
@@ -47,5 +48,5 @@ set_offset_checks state = state_short state ∷ []
 
 -- what kiban_set_offset commits to: the number, and every byte of the buffer
 pub record SetOffsetCall (buffer state : List ℕ) (place offset r : ℕ) (buffer' : List ℕ) : Type 0 where
-  pub number : r ≡ number_by (set_offset_checks state) (set_number (set_of (state_of state) buffer place))
+  pub number : r ≡ number_by (set_offset_checks state) (number_of (set_of (state_of state) buffer place))
   pub buffer_after : buffer' ≡ left_by (set_offset_checks state) buffer (buffer_after_set (state_of state) buffer place offset)

@@ -1,4 +1,7 @@
 -- The filter at the boundary: build's answer is one word (the bytes written), read's six, and ask_all's a byte for each hash.
+use Rattle.numbers.specs.declared.Refusal.{Refusal}
+use Rattle.std.specs.Prelude.{Result}
+use Rattle.numbers.specs.Numbers.{number_of}
 use Rattle.std.specs.Prelude.{ℕ, ◌≡◌, List, [], ◌∷◌, map, length}
 use Rattle.laws.specs.Refusals.{Cause}
 use Rattle.words.specs.Field.{splice}
@@ -8,13 +11,13 @@ use Rattle.filter.specs.declared.SstFilter.TheVariants as read
 use Rattle.filter.specs.declared.Built.{Built}
 use Rattle.filter.specs.Reading.{read_of, read_refusal, read_values}
 use Rattle.filter.specs.Asking.{ask_of, ask_number}
-use Rattle.filter.specs.Building.{build_of, built_refusal, built_values, hashes_by, space_by, out_by}
+use Rattle.filter.specs.Building.{build_of, built_values, hashes_by, space_by, out_by}
 use Rattle.kiban_c.specs.Lent.{answer_short, number_by, left_by}
 
 -- ---- building
 
 -- what build answers, for what is lent
-abbrev pub build_called : (hashes wide narrow out : List ℕ) → Built
+abbrev pub build_called : (hashes wide narrow out : List ℕ) → Result Built Refusal
 build_called hashes wide narrow out = build_of hashes (length wide) (length narrow) (length out)
 
 -- what kiban_filter_build checks first: answer under 1 word, 6
@@ -23,7 +26,7 @@ filter_build_checks answer = answer_short answer 1 ∷ []
 
 -- what kiban_filter_build commits to: the number, and every lent byte and word
 pub record FilterBuildCall (hashes wide narrow out answer : List ℕ) (r : ℕ) (hashes' wide' narrow' out' answer' : List ℕ) : Type 0 where
-  pub number : r ≡ number_by (filter_build_checks answer) (built_refusal (build_called hashes wide narrow out))
+  pub number : r ≡ number_by (filter_build_checks answer) (number_of (build_called hashes wide narrow out))
   pub hashes_after : hashes' ≡ left_by (filter_build_checks answer) hashes (hashes_by (build_called hashes wide narrow out) hashes)
   pub wide_after : wide' ≡ left_by (filter_build_checks answer) wide (space_by (build_called hashes wide narrow out) wide)
   pub narrow_after : narrow' ≡ left_by (filter_build_checks answer) narrow (space_by (build_called hashes wide narrow out) narrow)

@@ -1,21 +1,21 @@
 -- Reading an index at the boundary: kiban_validate is the number of `validate_of`; get's answer is four words (kind, sequence, offset, length).
-use Rattle.std.specs.Prelude.{ℕ, ◌≡◌, cond, List, [], ◌∷◌, eqb, length}
+use Rattle.numbers.specs.Numbers.{number_of}
+use Rattle.std.specs.Prelude.{ℕ, ◌≡◌, cond, List, [], ◌∷◌, eqb, length, None, Some}
 use Rattle.laws.specs.Refusals.{Cause}
 use Rattle.words.specs.Field.{splice}
-use Rattle.records.specs.declared.Limit.{Limit}
-use Rattle.records.specs.declared.Limit.TheVariants.{None, UpTo}
+use Rattle.records.specs.Limits.{Limit}
 use Rattle.point.specs.declared.Answer.{Answer}
-use Rattle.point.specs.Validate.{validate_of, refusal_number}
+use Rattle.point.specs.Validate.{validate_of}
 use Rattle.point.specs.Get.{get_of, answer_number, answer_values}
 use Rattle.kiban_c.specs.Lent.{answer_short, number_by, left_by}
 
 -- what kiban_validate returns
 abbrev pub validate_call_of : (body : List ℕ) (size : ℕ) → ℕ
-validate_call_of body size = refusal_number (validate_of body size)
+validate_call_of body size = number_of (validate_of body size)
 
 -- the limit that a host gives: none where `limited` is 0
 abbrev pub limit_given : (limited limit : ℕ) → Limit
-limit_given limited limit = cond (eqb limited 0) None (UpTo limit)
+limit_given limited limit = cond (eqb limited 0) None (Some limit)
 
 -- what get answers
 abbrev pub get_called : (body bytes key : List ℕ) (limited limit : ℕ) → Answer

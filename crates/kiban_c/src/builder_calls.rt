@@ -2,10 +2,10 @@
 ghost use Rattle.std.specs.Prelude.{◌≡◌, ◌≤◌, length};
 ghost use Rattle.kiban_c.specs.BuilderCalls.{state_of, AddCall, SetOffsetCall};
 
-use super::lent::put_words;
-use builder::{Added, OffsetSet, PointBuilder};
+use super::lent::{number, put_words};
+use builder::PointBuilder;
 use numbers::Refusal;
-use records::{Kind, KindRead};
+use records::Kind;
 
 // The state that words hold.
 fn state_of(state: &[u64]) -> PointBuilder
@@ -33,23 +33,23 @@ pub fn kiban_add(
     ensures { AddCall buffer.old state.old key.now kind length sequence new_key answer.old result buffer.new state.new answer.new }
 {
     if answer.len() < 1 {
-        return Refusal::BUFFER as u64;
+        return Refusal::Buffer as u64;
     }
     if state.len() < 3 {
-        return Refusal::STATE as u64;
+        return Refusal::State as u64;
     }
-    let KindRead::Known(known) = Kind::from_byte(kind) else {
-        return Refusal::KIND as u64;
+    let Some(known) = Kind::from_byte(kind) else {
+        return Refusal::Kind as u64;
     };
     let from = state_of(state);
     match from.add(buffer, key, known, length, sequence, new_key != 0) {
-        Added::Taken(next, place) => {
+        Ok((next, place)) => {
             let after = [next.used as u64, next.keys as u64, next.head as u64];
             put_words(state, &after);
             answer[0] = place as u64;
             0
         }
-        Added::Refused(n) => n as u64,
+        Err(refusal) => number(refusal),
     }
 }
 
@@ -58,11 +58,11 @@ pub fn kiban_set_offset(buffer: &mut [u8], state: &[u64], place: u64, offset: u6
     ensures { SetOffsetCall buffer.old state.now place offset result buffer.new }
 {
     if state.len() < 3 {
-        return Refusal::STATE as u64;
+        return Refusal::State as u64;
     }
     let from = state_of(state);
     match from.set_value_offset(buffer, place as usize, offset) {
-        OffsetSet::Set => 0,
-        OffsetSet::Refused(n) => n as u64,
+        Ok(()) => 0,
+        Err(refusal) => number(refusal),
     }
 }

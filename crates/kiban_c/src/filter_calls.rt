@@ -5,11 +5,10 @@ ghost use Rattle.filter.specs.Asking.{ask_number};
 ghost use Rattle.kiban_c.specs.FilterCalls.{FilterBuildCall, FilterReadCall, filter_ask_of, FilterAskAllCall};
 ghost use Rattle.kiban_c.specs.Inner.Asking.{cells_ask_of};
 
-use super::lent::put_words;
+use super::lent::{number, put_words};
 use filter::{Asked, Built, SstFilter};
 use fuse::Sizes;
 use numbers::Refusal;
-use words::part;
 
 // Builds a filter of the hashes: 0, with the bytes written in front of `answer`, or the refusal; 6 first for an answer under one word.
 pub fn kiban_filter_build(
@@ -22,18 +21,18 @@ pub fn kiban_filter_build(
     ensures { FilterBuildCall hashes.old wide.old narrow.old out.old answer.old result hashes.new wide.new narrow.new out.new answer.new }
 {
     if answer.len() < 1 {
-        return Refusal::BUFFER as u64;
+        return Refusal::Buffer as u64;
     }
     match filter::build(hashes, wide, narrow, out) {
-        Built::Positive => {
+        Ok(Built::Positive) => {
             answer[0] = Sizes::HEADER as u64;
             0
         }
-        Built::Fuse(s) => {
+        Ok(Built::Fuse(s)) => {
             answer[0] = Sizes::HEADER as u64 + (s.count as u64 + 3) * s.segment as u64;
             0
         }
-        Built::Refused(n) => n as u64,
+        Err(refusal) => number(refusal),
     }
 }
 
@@ -42,7 +41,7 @@ pub fn kiban_filter_read(bytes: &[u8], answer: &mut [u64]) -> u64
     ensures { FilterReadCall bytes.now answer.old result answer.new }
 {
     if answer.len() < 6 {
-        return Refusal::BUFFER as u64;
+        return Refusal::Buffer as u64;
     }
     match filter::read(bytes) {
         SstFilter::Positive => {
@@ -55,18 +54,18 @@ pub fn kiban_filter_read(bytes: &[u8], answer: &mut [u64]) -> u64
             put_words(answer, &held);
             0
         }
-        SstFilter::Refused => Refusal::FILTER as u64,
+        SstFilter::Refused => Refusal::Filter as u64,
     }
 }
 
 // The number of an answer.
-fn number(answer: Asked) -> u8
+fn ask_number(answer: Asked) -> u8
     ensures { result ≡ ask_number answer }
 {
     match answer {
         Asked::Absent => 0,
         Asked::Maybe => 1,
-        Asked::Refused => Refusal::FILTER,
+        Asked::Refused => Refusal::Filter as u8,
     }
 }
 
@@ -74,7 +73,7 @@ fn number(answer: Asked) -> u8
 pub fn kiban_filter_ask(bytes: &[u8], hash: u64) -> u64
     ensures { result ≡ filter_ask_of bytes.now hash }
 {
-    number(filter::ask(bytes, hash)) as u64
+    ask_number(filter::ask(bytes, hash)) as u64
 }
 
 // Puts a number for each hash in front: what a Fuse filter of these sizes answers beside its cells.
@@ -82,10 +81,8 @@ fn ask_each(s: Sizes, cells: &[u8], hashes: &[u64], answers: &mut [u8])
     requires { length hashes.now ≤ length answers.old }
     ensures { answers.new ≡ splice answers.old 0 (map (cells_ask_of s cells.now) hashes.now) }
 {
-    let mut i = 0;
-    while i < hashes.len() {
-        answers[i] = number(filter::ask_cells(SstFilter::Fuse(s), cells, hashes[i]));
-        i += 1;
+    for i in 0..hashes.len() {
+        answers[i] = ask_number(filter::ask_cells(SstFilter::Fuse(s), cells, hashes[i]));
     }
 }
 
@@ -94,17 +91,17 @@ pub fn kiban_filter_ask_all(bytes: &[u8], hashes: &[u64], answers: &mut [u8]) ->
     ensures { FilterAskAllCall bytes.now hashes.now answers.old result answers.new }
 {
     if answers.len() < hashes.len() {
-        return Refusal::BUFFER as u64;
+        return Refusal::Buffer as u64;
     }
     match filter::read(bytes) {
         SstFilter::Positive => {
-            part::fill(&mut answers[..hashes.len()], 1);
+            answers[..hashes.len()].fill(1);
             0
         }
         SstFilter::Fuse(s) => {
             ask_each(s, &bytes[Sizes::HEADER..], hashes, answers);
             0
         }
-        SstFilter::Refused => Refusal::FILTER as u64,
+        SstFilter::Refused => Refusal::Filter as u64,
     }
 }

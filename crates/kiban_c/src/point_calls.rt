@@ -3,9 +3,9 @@ ghost use Rattle.std.specs.Prelude.{◌≡◌};
 ghost use Rattle.records.specs.Model.{kind_byte};
 ghost use Rattle.kiban_c.specs.PointCalls.{validate_call_of, limit_given, GetCall};
 
-use super::lent::put_words;
+use super::lent::{number, put_words};
 use numbers::Refusal;
-use point::{Answer, Validated};
+use point::Answer;
 use records::{Kind, Limit};
 
 // Validates a body for data of a length: 0, or the refusal.
@@ -13,8 +13,8 @@ pub fn kiban_validate(body: &[u8], data_length: u64) -> u64
     ensures { result ≡ validate_call_of body.now data_length }
 {
     match point::validate(body, data_length) {
-        Validated::Accepted => 0,
-        Validated::Refused(n) => n as u64,
+        Ok(()) => 0,
+        Err(refusal) => number(refusal),
     }
 }
 
@@ -22,10 +22,7 @@ pub fn kiban_validate(body: &[u8], data_length: u64) -> u64
 fn limit_given(limited: u8, limit: u64) -> Limit
     ensures { result ≡ limit_given limited limit }
 {
-    if limited == 0 {
-        return Limit::None;
-    }
-    Limit::UpTo(limit)
+    if limited == 0 { None } else { Some(limit) }
 }
 
 // A kind as its number: 1 put, 2 tombstone.
@@ -48,7 +45,7 @@ pub fn kiban_get(
     ensures { GetCall body.now «data».now key.now limited limit answer.old result answer.new }
 {
     if answer.len() < 4 {
-        return Refusal::BUFFER as u64;
+        return Refusal::Buffer as u64;
     }
     match point::get(body, data, key, limit_given(limited, limit)) {
         Answer::Found(r) => {
@@ -58,6 +55,6 @@ pub fn kiban_get(
             0
         }
         Answer::Nothing => 1,
-        Answer::Refused(n) => n as u64,
+        Answer::Refused(refusal) => number(refusal),
     }
 }

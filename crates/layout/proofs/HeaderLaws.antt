@@ -19,7 +19,8 @@ use Rattle.words.specs.Part.{same_as}
 use Rattle.mixing.specs.Mixing.{bucket_of, position_of, position_of_lt}
 use Rattle.mixing.specs.Slots.{buckets_of, direct, slot_by}
 use Rattle.mixing.proofs.SlotLaws.{some_buckets, few_buckets}
-use Rattle.layout.specs.Layout.{index_magic, seed_in, keys_in, buckets_in, arena_in, arena_start, header_bytes, magic_refusal, dimension_causes, dimension_refusal, header_refusal, pilot_of, slot_at, direct_past, slot_of, slot_place}
+use Rattle.layout.specs.declared.Header.{Header}
+use Rattle.layout.specs.Layout.{index_magic, seed_in, keys_in, buckets_in, arena_in, arena_start, header_bytes, magic_refusal, dimension_causes, dimension_refusal, header_refusal, header_in, pilot_of, slot_at, direct_past, slot_of, slot_place}
 
 -- a test that refuses, and did not
 pub passes : (t : Bool) (r x : ℕ) → cond t (suc r) x ≡ 0 → (t ≡ false) × (x ≡ 0)
@@ -82,13 +83,27 @@ headed body e =
     let d = or_else_zero (dimension_refusal (keys_in body) (buckets_in body) (arena_in body)) _ s.1 in
     record { long = magic_long body s.0; dims = dimensions _ _ _ d.0; inside = leb-false _ _ (passes (leb (length body) (arena_in body)) 20 0 d.1).0 }
 
+-- the fields of a header that was read
+module _ (body : List ℕ) {h : Header} (read : h ≡ header_in body) where
+  pub seed_is : h.seed ≡ seed_in body
+  seed_is = ap (λ (x : Header). x.seed) read
+
+  pub keys_are : h.keys ≡ keys_in body
+  keys_are = ap (λ (x : Header). x.keys) read
+
+  pub buckets_are : h.buckets ≡ buckets_in body
+  buckets_are = ap (λ (x : Header). x.buckets) read
+
+  pub arena_is : h.arena ≡ arena_in body
+  arena_is = ap (λ (x : Header). x.arena) read
+
 pub header_stop : (body : List ℕ) (r : ℕ) → r ≡ magic_refusal body → (r ≡ 0 → ⊥) → header_refusal body ≡ r
 unfolding header_refusal
 header_stop body r e n = rw (← e) (or_else_stop r _ n)
 
-pub header_on : (body : List ℕ) (m r n b a : ℕ) → m ≡ magic_refusal body → m ≡ 0 → n ≡ keys_in body → b ≡ buckets_in body → a ≡ arena_in body
-    → r ≡ dimension_refusal n b a → header_refusal body ≡ or_else r (cond (leb (length body) a) 21 0)
-header_on body m r n b a e z en eb ea er = rw (header_is body, ← e, z, ← en, ← eb, ← ea, ← er)
+pub header_on : (body : List ℕ) (m r : ℕ) (h : Header) → m ≡ magic_refusal body → m ≡ 0 → h ≡ header_in body
+    → r ≡ dimension_refusal h.keys h.buckets h.arena → header_refusal body ≡ or_else r (cond (leb (length body) h.arena) 21 0)
+header_on body m r h e z eh er = rw (header_is body, ← e, z, er, eh)
 
 -- ---- the header as it is written, and read again
 
@@ -144,9 +159,9 @@ module _ (seed n : ℕ) (few : n < 2 ^ 32) (rest : List ℕ) where
   unfolding header_bytes dimension_refusal arena_start
   header_fine some low inside =
       let ne : n ≡ 0 → ⊥ = λ z. omega arith in
-      header_on _ 0 0 n (buckets_of n) (arena_start n) (sym (magic_is _ true (omega arith) (same_self index_magic))) refl (sym keys_read) (sym buckets_read) (sym start_read)
-      (rw (ne_eqb n 0 ne, lt-leb direct n low, eq-eqb (buckets_of n) (buckets_of n) refl, eq-eqb (arena_start n) (arena_start n) refl))
-      ∙ rw (lt-leb _ _ inside)
+      header_on _ 0 0 (header_in (header_bytes seed n ++ rest)) (sym (magic_is _ true (omega arith) (same_self index_magic))) refl refl
+      (rw (keys_read, buckets_read, start_read, ne_eqb n 0 ne, lt-leb direct n low, eq-eqb (buckets_of n) (buckets_of n) refl, eq-eqb (arena_start n) (arena_start n) refl))
+      ∙ rw (start_read, lt-leb _ _ inside)
 
 -- ---- pilots and slots
 

@@ -5,6 +5,7 @@ use Rattle.words.specs.Field.{le, bytes_of}
 use Rattle.words.specs.Part.{same_as}
 use Rattle.mixing.specs.Mixing.{bucket_of}
 use Rattle.mixing.specs.Slots.{buckets_of, direct, slot_by}
+use Rattle.layout.specs.declared.Header.{Header}
 
 -- KIBANPH2
 abbrev pub index_magic : List ℕ
@@ -22,6 +23,10 @@ buckets_in body = le 4 body 20
 
 abbrev pub arena_in : List ℕ → ℕ
 arena_in body = le 8 body 24
+
+-- the header that a body begins with
+abbrev pub header_in : List ℕ → Header
+header_in body = record { seed = seed_in body; keys = keys_in body; buckets = buckets_in body; arena = arena_in body }
 
 -- where slot i stands, behind the header and b pilots; behind the last slot the arena starts
 abbrev pub slot_at : (b i : ℕ) → ℕ

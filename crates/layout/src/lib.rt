@@ -1,9 +1,10 @@
 // The layout of a body: its header's fields and rules, and where its pilots, slots and arena stand.
 #![tactic(auto)]
 
-ghost use Rattle.std.specs.Prelude.{◌≡◌, ◌^◌, ◌<◌, ◌≤◌, length};
+ghost use Rattle.std.specs.Prelude.{◌≡◌, ◌^◌, ◌<◌, ◌≤◌, length, IfOk};
 ghost use Rattle.words.specs.Field.{splice};
-ghost use Rattle.layout.specs.Layout.{magic_refusal, slot_at, arena_start, header_bytes, dimension_refusal, header_refusal, seed_in, keys_in, buckets_in, arena_in};
+ghost use Rattle.numbers.specs.Numbers.{number_of};
+ghost use Rattle.layout.specs.Layout.{magic_refusal, slot_at, arena_start, header_bytes, dimension_refusal, header_refusal, header_in};
 
 use mixing::slot::{Pilot, buckets};
 use numbers::Refusal;
@@ -12,12 +13,17 @@ use words::{field, part};
 // KIBANPH2, which a body begins with.
 const MAGIC: [u8; 8] = [75, 73, 66, 65, 78, 80, 72, 50];
 
-// The header of a body.
-#[derive(Drop)]
-pub struct Header {}
+// The header of a body: the seed, the number of keys, the number of buckets, where the arena starts.
+#[derive(Clone, Copy)]
+pub struct Header {
+    pub seed: u64,
+    pub keys: u32,
+    pub buckets: u32,
+    pub arena: u64,
+}
 
 impl Header {
-    // Where its fields stand: the seed, the number of keys, the number of buckets, where the arena starts.
+    // Where its fields stand.
     const SEED: usize = 8;
 
     const KEYS: usize = 16;
@@ -34,51 +40,32 @@ impl Header {
 
     // The bytes of a slot.
     pub const SLOT: usize = 12;
+
+    // The header that a body begins with.
+    pub fn read(body: &[u8]) -> Header
+        requires { 32 ≤ length body.now }
+        ensures { result ≡ header_in body.now }
+    {
+        Header {
+            seed: field::u64_at(body, Header::SEED),
+            keys: field::u32_at(body, Header::KEYS),
+            buckets: field::u32_at(body, Header::BUCKETS),
+            arena: field::u64_at(body, Header::ARENA),
+        }
+    }
 }
 
-// Of the header: the seed.
-pub fn seed_in(body: &[u8]) -> u64
-    requires { 32 ≤ length body.now }
-    ensures { result ≡ seed_in body.now }
-{
-    field::u64_at(body, Header::SEED)
-}
-
-// The number of keys.
-pub fn keys_in(body: &[u8]) -> u32
-    requires { 32 ≤ length body.now }
-    ensures { result ≡ keys_in body.now }
-{
-    field::u32_at(body, Header::KEYS)
-}
-
-// The number of buckets.
-pub fn buckets_in(body: &[u8]) -> u32
-    requires { 32 ≤ length body.now }
-    ensures { result ≡ buckets_in body.now }
-{
-    field::u32_at(body, Header::BUCKETS)
-}
-
-// Where the arena starts.
-pub fn arena_in(body: &[u8]) -> u64
-    requires { 32 ≤ length body.now }
-    ensures { result ≡ arena_in body.now }
-{
-    field::u64_at(body, Header::ARENA)
-}
-
-// 20, or 0.
-fn magic_refusal(body: &[u8]) -> u8
-    ensures { result ≡ magic_refusal body.now }
+// Refuses by 20.
+fn check_magic(body: &[u8]) -> Result<(), Refusal>
+    ensures { number_of result ≡ magic_refusal body.now }
 {
     if body.len() < Header::BYTES {
-        return Refusal::MAGIC;
+        return Err(Refusal::Magic);
     }
     if part::same(&body[..8], &MAGIC) {
-        return 0;
+        return Ok(());
     }
-    Refusal::MAGIC
+    Err(Refusal::Magic)
 }
 
 // Where slot i stands, behind the header and b pilots; behind the last slot the arena starts.
@@ -111,40 +98,46 @@ pub fn put_header(out: &mut [u8], n: usize, seed: u64)
     field::put_u64(out, Header::ARENA, start as u64);
 }
 
-// 21, or 0, by n keys, b buckets and an arena start alone, whatever the body's length.
-pub fn dimension_refusal(n: u64, b: u64, arena: u64) -> u8
-    ensures { result ≡ dimension_refusal n b arena }
+// Refuses by 21, by n keys, b buckets and an arena start alone, whatever the body's length.
+pub fn check_dimensions(n: u64, b: u64, arena: u64) -> Result<(), Refusal>
+    ensures { number_of result ≡ dimension_refusal n b arena }
 {
     if n == 0 {
-        return Refusal::DIMENSIONS;
+        return Err(Refusal::Dimensions);
     }
     if Pilot::DIRECT as u64 <= n {
-        return Refusal::DIMENSIONS;
+        return Err(Refusal::Dimensions);
     }
     if b != buckets(n as usize) as u64 {
-        return Refusal::DIMENSIONS;
+        return Err(Refusal::Dimensions);
     }
     if arena != slot_at(b as usize, n as usize) as u64 {
-        return Refusal::DIMENSIONS;
+        return Err(Refusal::Dimensions);
     }
-    0
+    Ok(())
 }
 
-// 20 or 21, or 0: what validate and get check first.
-pub fn header_refusal(body: &[u8]) -> u8
-    ensures { result ≡ header_refusal body.now }
-{
-    let magic = magic_refusal(body);
-    if magic != 0 {
-        return magic;
+// A body whose header passed 20 and 21, beside that header.
+#[derive(Clone, Copy)]
+pub struct Headed<'a> {
+    pub body: &'a [u8],
+    pub header: Header,
+    pub ghost passed: { header_refusal body.now ≡ 0 },
+    pub ghost read: { header ≡ header_in body.now },
+}
+
+impl<'a> Headed<'a> {
+    // Refuses by 20 and 21: what validate and get check first.
+    pub fn open(body: &'a [u8]) -> Result<Self, Refusal>
+        ensures refuses { number_of result ≡ header_refusal body.now }
+        ensures of_body { IfOk result (λ h. h.body.now ≡ body.now) }
+    {
+        check_magic(body)?;
+        let header = Header::read(body);
+        check_dimensions(header.keys as u64, header.buckets as u64, header.arena)?;
+        if body.len() as u64 <= header.arena {
+            return Err(Refusal::Dimensions);
+        }
+        Ok(Headed { body, header })
     }
-    let arena = arena_in(body);
-    let r = dimension_refusal(keys_in(body) as u64, buckets_in(body) as u64, arena);
-    if r != 0 {
-        return r;
-    }
-    if body.len() as u64 <= arena {
-        return Refusal::DIMENSIONS;
-    }
-    0
 }

@@ -4,15 +4,16 @@ use native.Mathlib.Omega.{arith}
 use mathlib.Core.Path.{◌≡◌, refl, sym, ap, ◌∙◌, subst}
 use mathlib.Core.Bool.{Bool, true, false, cond}
 use mathlib.Core.List.{List, ◌++◌, append_cancel_right}
-use mathlib.Core.Logic.{◌⊎◌, inl, inr}
+use mathlib.Core.Logic.{◌⊎◌, inl, inr, ⊎_elim}
 use lib.Dec.{ltb}
 use lib.ListN.{length, get_or, drop}
 use borrow.Author.Tests.{ltb-true, ltb-false, le-ltb}
 use Rattle.laws.specs.Refusals.{or_else}
+use Rattle.numbers.specs.Numbers.{number_of}
 use Rattle.text.specs.Text.{decimal, read_from, field, named}
 use Rattle.text.proofs.TextLaws.{decimal_read}
 use Rattle.records.specs.Model.{Entry}
-use Rattle.point.specs.Validate.{validate_of, refusal_number}
+use Rattle.point.specs.Validate.{validate_of}
 use Rattle.point.specs.Table.{table_of}
 use Rattle.point.proofs.CauseLaws.{validate_cause, cause_validate, stops_between}
 use Rattle.lines.specs.Shown.{Rule}
@@ -35,7 +36,7 @@ stops_some (body_stops h g s) z = omega (arith, (stops_between s).0)
 -- ---- the listing's number, exactly for its cause
 
 validated_number : (input : List ℕ) → 16 ≤ length input → length input ≤ 65536
-    → listing_refusal input ≡ refusal_number (validate_of (body_in input) (data_length_in input))
+    → listing_refusal input ≡ number_of (validate_of (body_in input) (data_length_in input))
 unfolding listing_refusal size_refusal
 validated_number input h g = rw (le-ltb (length input) 16 h, le-ltb 65536 (length input) g)
 
@@ -44,7 +45,7 @@ unfolding listing_refusal size_refusal
 refusal_stops input n h e = go (ltb (length input) 16) (ltb 65536 (length input)) refl refl e
   where
     go : (a b : Bool) → ltb (length input) 16 ≡ a → ltb 65536 (length input) ≡ b
-        → or_else (cond a 16 (cond b 16 0)) (refusal_number (validate_of (body_in input) (data_length_in input))) ≡ n → ListingStops input n
+        → or_else (cond a 16 (cond b 16 0)) (number_of (validate_of (body_in input) (data_length_in input))) ≡ n → ListingStops input n
     go true b p q f = subst (ListingStops input) f (too_short (ltb-true _ _ p))
     go false true p q f = subst (ListingStops input) f (too_long (ltb-true _ _ q))
     go false false p q f = body_stops (ltb-false _ _ p) (ltb-false _ _ q) (validate_cause (body_in input) (data_length_in input) n h f)
@@ -53,6 +54,12 @@ stops_refusal : {input : List ℕ} {n : ℕ} → ListingStops input n → listin
 stops_refusal {input} (too_short h) = sym (size_short input h)
 stops_refusal {input} (too_long h) = sym (size_long input (omega arith) h)
 stops_refusal {input} {n} (body_stops h g s) = validated_number input h g ∙ cause_validate (body_in input) (data_length_in input) n s
+
+-- and it is small
+pub refusal_low : (input : List ℕ) (n : ℕ) → n ≡ listing_refusal input → n < 256
+refusal_low input zero e = omega arith
+refusal_low input (suc n) e =
+    ⊎_elim (λ q. omega (arith, q)) (λ q. omega (arith, q.1)) (stops_numbers (refusal_stops input (suc n) (omega arith) (sym e)))
 
 -- ---- `refused R` shows its number, and is no table's text
 
@@ -86,7 +93,7 @@ module _ (rule : Rule) where
   -- THEOREM: of an input up to 65,536 bytes whose body is accepted the text is the table's
   pub listed_text : (input : List ℕ) → Listable input → text_of rule input ≡ table_text rule (limit_in input) (table_of (body_in input))
   unfolding text_of
-  listed_text input t = ap (text_by rule input) (validated_number input (listable_long t) t.short ∙ ap refusal_number t.accepted)
+  listed_text input t = ap (text_by rule input) (validated_number input (listable_long t) t.short ∙ ap number_of t.accepted)
 
   -- THEOREM: and only of such an input
   pub text_listed_only : (input : List ℕ) → text_of rule input ≡ table_text rule (limit_in input) (table_of (body_in input)) → Listable input

@@ -1,4 +1,5 @@
 -- The input: which number it is refused with, what an input that is not refused holds, and the room that its text needs. Assumes nothing.
+use Rattle.std.specs.Prelude.{Some, Result, Ok, Err}
 use Prim.Native.Nat.{ℕ, zero, suc, ◌-◌, ◌*◌, ◌^◌, ◌<◌, ◌≤◌}
 use native.Mathlib.Nat.{suc-ne-zero}
 use native.Mathlib.Omega.{arith}
@@ -12,20 +13,19 @@ use borrow.Author.Tests.{ltb-false, lt-ltb, le-ltb}
 use Rattle.laws.proofs.RefusalLaws.{or_else_zero}
 use Rattle.words.proofs.Laws.{bytes_drop, le_lt}
 use Rattle.words.specs.Field.{AllBytes}
+use Rattle.numbers.specs.declared.Refusal.{Refusal}
+use Rattle.numbers.specs.Numbers.{number_of}
+use Rattle.numbers.proofs.NumberLaws.{number_nonzero}
 use Rattle.text.specs.Inner.Written.{Ends}
 use Rattle.text.proofs.TextLaws.{decimal_short}
 use Rattle.layout.specs.Layout.{arena_in}
 use Rattle.layout.proofs.HeaderLaws.{headed}
-use Rattle.records.specs.declared.DataLength.TheVariants.{Of}
 use Rattle.records.specs.Model.{table_bytes}
-use Rattle.point.specs.declared.Validated.{Validated}
-use Rattle.point.specs.declared.Validated.TheVariants.{Accepted}
-use Rattle.point.specs.Validate.{validation_refusal, verdict, validate_of, refusal_number}
+use Rattle.point.specs.Validate.{validate_of}
 use Rattle.point.specs.Table.{table_of}
 use Rattle.point.proofs.ValidateLaws.{validation_passed}
 use Rattle.point.specs.Inner.Stands.{TableStands}
 use Rattle.point.proofs.SlotLaws.{accepted_stands, holds_table}
-use Rattle.lines.specs.declared.Listed.{Listed}
 use Rattle.lines.specs.Shown.{Rule}
 use Rattle.lines.specs.Listing.{table_text, refused_text, limit_in, data_length_in, body_in, size_refusal, listing_refusal, text_by, text_of, Listing}
 use Rattle.lines.specs.Causes.{Listable}
@@ -44,24 +44,25 @@ module _ (input : List ℕ) where
   unfolding listing_refusal size_refusal
   size_long h g = rw (le-ltb (length input) 16 h, lt-ltb 65536 (length input) g)
 
-  pub size_passed : 16 ≤ length input → length input ≤ 65536 → (v : Validated) (size : ℕ) → size ≡ data_length_in input → v ≡ validate_of (take (length input - 16) (drop 16 input)) size
-      → refusal_number v ≡ listing_refusal input
+  pub size_passed : 16 ≤ length input → length input ≤ 65536 → (v : Result (Unit {0}) Refusal) (size : ℕ) → size ≡ data_length_in input → v ≡ validate_of (take (length input - 16) (drop 16 input)) size
+      → number_of v ≡ listing_refusal input
   unfolding listing_refusal size_refusal
   size_passed h g v size es ev =
       rw (le-ltb (length input) 16 h, le-ltb 65536 (length input) g)
-      (ap refusal_number (ev ∙ ap (λ (b : List ℕ). validate_of b size) (part_to_end input 16) ∙ ap (validate_of (drop 16 input)) es))
+      (ap number_of (ev ∙ ap (λ (b : List ℕ). validate_of b size) (part_to_end input 16) ∙ ap (validate_of (drop 16 input)) es))
 
-verdict_zero : (n : ℕ) → refusal_number (verdict n) ≡ 0 → verdict n ≡ Accepted
-verdict_zero zero e = refl
-verdict_zero (suc n) e = absurd (suc-ne-zero _ e)
+-- an answer of the number 0 accepts
+accepts : (r : Result (Unit {0}) Refusal) → number_of r ≡ 0 → r ≡ Ok (record {})
+accepts (Ok u) e = refl
+accepts (Err r) e = absurd (number_nonzero r e)
 
 pub unrefused : (input : List ℕ) → listing_refusal input ≡ 0 → Listable input
-unfolding listing_refusal size_refusal validate_of
+unfolding listing_refusal size_refusal
 unrefused input e =
-    let s = or_else_zero (size_refusal input) (refusal_number (validate_of (body_in input) (data_length_in input))) e in
-    go (ltb (length input) 16) (ltb 65536 (length input)) refl refl s.0 (verdict_zero (validation_refusal (body_in input) (data_length_in input)) s.1)
+    let s = or_else_zero (size_refusal input) (number_of (validate_of (body_in input) (data_length_in input))) e in
+    go (ltb (length input) 16) (ltb 65536 (length input)) refl refl s.0 (accepts (validate_of (body_in input) (data_length_in input)) s.1)
   where
-    go : (a b : Bool) → ltb (length input) 16 ≡ a → ltb 65536 (length input) ≡ b → cond {A = ℕ} a 16 (cond b 16 0) ≡ 0 → verdict (validation_refusal (body_in input) (data_length_in input)) ≡ Accepted → Listable input
+    go : (a b : Bool) → ltb (length input) 16 ≡ a → ltb 65536 (length input) ≡ b → cond {A = ℕ} a 16 (cond b 16 0) ≡ 0 → validate_of (body_in input) (data_length_in input) ≡ Ok (record {}) → Listable input
     go true b ea eb z v = absurd (suc-ne-zero _ z)
     go false true ea eb z v = absurd (suc-ne-zero _ z)
     go false false ea eb z v = record { short = ltb-false _ _ eb; accepted = v }
@@ -102,7 +103,7 @@ listed_length rule input limit t all el =
     let l : limit < 2 ^ 64 = rw el (le_lt 8 input 0 all) in
     let n : length (table_of body) < 2 ^ 64 = omega (arith, u.count, le_lt 4 body 16 bytes) in
     let s : length (table_bytes (table_of body)) ≡ length input - 16 - arena_in body = sym (ap length u.bytes) ∙ simp length-drop in
-    omega (arith, length-drop 16 input, table_length (Of (data_length_in input)) rule limit (table_of body) u.rules.entries l n)
+    omega (arith, length-drop 16 input, table_length (Some (data_length_in input)) rule limit (table_of body) u.rules.entries l n)
 
 pub listable_ends : (rule : Rule) {input : List ℕ} → Listable input → AllBytes input → (limit : ℕ) → limit ≡ limit_in input → Ends 0 (table_text rule limit (table_of (take (length input - 16) (drop 16 input))))
 listable_ends rule {input} t all limit el =
@@ -110,7 +111,7 @@ listable_ends rule {input} t all limit el =
 
 -- ---- the answer
 
-module _ {rule : Rule} {input before after : List ℕ} {a : Listed} where
+module _ {rule : Rule} {input before after : List ℕ} {a : Result ℕ Refusal} where
   pub refused_listing : (r : ℕ) → r < 256 → r ≡ listing_refusal input → (r ≡ 0 → ⊥) → Lists (refused_text r) before a after → Listing rule input before a after
   refused_listing r h e n l =
       let t = text_refused rule input r e n in

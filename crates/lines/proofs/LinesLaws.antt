@@ -1,6 +1,6 @@
 -- The walk that writes the lines, an entry at a time. Assumes nothing.
 use Prim.Native.Nat.{ℕ, ◌+◌, ◌-◌, ◌<◌, ◌≤◌}
-use native.Mathlib.Nat.{zero-add, add-zero}
+use native.Mathlib.Nat.{add-zero}
 use native.Mathlib.Omega.{arith}
 use mathlib.Core.Path.{◌≡◌, refl, sym, ap, ◌∙◌}
 use mathlib.Core.List.{List, [], ◌++◌, append-nil}
@@ -21,7 +21,6 @@ use Rattle.records.proofs.ModelLaws.{found_some}
 use Rattle.records.proofs.PassedLaws.{entries_count}
 use Rattle.records.proofs.StandsLaws.{stands_on, entries_on}
 use Rattle.point.specs.Table.{table_of}
-use Rattle.point.specs.Inner.Stands.{TableStands}
 use Rattle.lines.specs.declared.Lines.{Lines}
 use Rattle.lines.specs.Shown.{Rule, shown, Shows, shows_for, shown_of}
 use Rattle.lines.specs.Listing.{line_of, text_of_shown}
@@ -57,17 +56,6 @@ pub record Going (rule : Rule) (limit : ℕ) (before : List ℕ) (at : ℕ) (bod
   pub place : end + length (text_of_shown (shown_from rule limit body p left)) ≡ at + length (text_of_shown (shown_from rule limit body (arena_in body) (keys_in body)))
   pub count : shown + length (shown_from rule limit body p left) ≡ length (shown_from rule limit body (arena_in body) (keys_in body))
   pub size : length out ≡ length before
-
-pub going_first : (rule : Rule) (limit : ℕ) (before : List ℕ) (at : ℕ) (body : List ℕ) (p left : ℕ) → TableStands body → p ≡ arena_in body → left ≡ keys_in body
-    → Going rule limit before at body before at 0 p left
-going_first rule limit before at body p left w ep el =
-    record {
-      stand = rw (ep, el) w.all;
-      buffer = rw (ep, el);
-      place = rw (ep, el);
-      count = rw (ep, el) (zero-add _);
-      size = refl;
-    }
 
 module _ {rule : Rule} {limit : ℕ} {before : List ℕ} {at : ℕ} {body out : List ℕ} {end shown p left : ℕ} (g : Going rule limit before at body out end shown p left) where
   module _ (some : 0 < left) where

@@ -1,4 +1,5 @@
 -- How long a listing is: a line is at most twice as long as its entry's bytes, and the header at most 80 bytes. Assumes nothing.
+use Rattle.std.specs.Prelude.{Some}
 use Prim.Native.Nat.{ℕ, ◌+◌, ◌*◌, ◌^◌, ◌<◌, ◌≤◌}
 use native.Mathlib.Omega.{arith}
 use mathlib.Core.Path.{◌≡◌, refl}
@@ -10,10 +11,9 @@ use Rattle.laws.specs.Each.{Each}
 use Rattle.laws.specs.Each.Each.{each_more}
 use Rattle.text.specs.Text.{decimal, key_text, field, named}
 use Rattle.text.proofs.TextLaws.{decimal_length, decimal_short, key_text_length}
-use Rattle.records.specs.declared.DataLength.{DataLength}
+use Rattle.records.specs.Limits.{DataLength}
 use Rattle.records.specs.declared.Kind.{Kind}
 use Rattle.records.specs.declared.Kind.TheVariants.{Put, Tombstone}
-use Rattle.records.specs.declared.Limit.TheVariants.{UpTo}
 use Rattle.records.specs.declared.Record.{Record}
 use Rattle.records.specs.Model.{Entry, entry_bytes, table_bytes, record_within}
 use Rattle.records.specs.Tables.{RecordRules, EntryRules}
@@ -30,9 +30,9 @@ pub shown_of_lem : {P : Record → Type 0} (rule : Rule) (limit : ℕ) (e : Entr
 unfolding shown
 shown_of_lem {P} rule limit e r u q = go (rule limit e) q
   where
-    go : (b : Bool) → cond b none (record_within (UpTo limit) e) ≡ some r → P r
+    go : (b : Bool) → cond b none (record_within (Some limit) e) ≡ some r → P r
     go true f = absurd (let z : ◌≡◌ {A = ℕ} 0 1 = cc in omega arith)
-    go false f = greatest_has (UpTo limit) e.versions r u f
+    go false f = greatest_has (Some limit) e.versions r u f
 
 -- ---- a line
 

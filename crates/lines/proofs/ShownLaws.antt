@@ -1,4 +1,5 @@
 -- What an entry shows, by what the searches over its versions find; its line and its count before those of the entries behind it. Assumes nothing.
+use Rattle.std.specs.Prelude.{None, Some}
 use Prim.Native.Nat.{ℕ, ◌+◌, ◌≤◌}
 use native.Mathlib.Nat.{zero-add}
 use native.Mathlib.Omega.{arith}
@@ -7,7 +8,6 @@ use mathlib.Core.Bool.{true, false}
 use mathlib.Core.List.{List, [], ◌∷◌, ◌++◌, append-nil}
 use mathlib.Core.Option.{Option, none, some}
 use lib.ListN.{length}
-use Rattle.records.specs.declared.Limit.TheVariants.{None, UpTo}
 use Rattle.records.specs.declared.Record.{Record}
 use Rattle.records.specs.declared.Within.{Within}
 use Rattle.records.specs.declared.Within.TheVariants.{Nothing}
@@ -39,9 +39,9 @@ module _ (body : List ℕ) (limit p : ℕ) (s : EntryStands body p) where
     shown_left e = rw e
 
     -- it does not
-    pub shown_found : rule limit (entry_at body p) ≡ false → (w : Within) → w ≡ entry_within body p (UpTo limit) → w ≡ found_of (shown rule limit (entry_at body p))
+    pub shown_found : rule limit (entry_at body p) ≡ false → (w : Within) → w ≡ entry_within body p (Some limit) → w ≡ found_of (shown rule limit (entry_at body p))
     unfolding shown
-    shown_found e w ew = rw e (ew ∙ entry_within_lem body (UpTo limit) p s)
+    shown_found e w ew = rw e (ew ∙ entry_within_lem body (Some limit) p s)
 
 -- ---- what one entry shows, before what those behind it show
 

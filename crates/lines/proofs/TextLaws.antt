@@ -1,4 +1,5 @@
 -- The text of a listing in its pieces, and what a buffer holds after it. Assumes nothing.
+use Rattle.std.specs.Prelude.{Ok, Err}
 use Prim.Native.Nat.{ℕ, ◌+◌, ◌<◌, ◌≤◌}
 use native.Mathlib.Nat.{zero-add}
 use native.Mathlib.Omega.{arith}
@@ -9,6 +10,7 @@ use lib.ListN.{length, length-append}
 use lib.Dec.{leb}
 use borrow.Author.Tests.{le-leb, lt-leb, leb-true}
 use Rattle.words.proofs.Laws.{splice_sets}
+use Rattle.numbers.specs.declared.Refusal.TheVariants.{Buffer}
 use Rattle.text.specs.Text.{decimal, field, named}
 use Rattle.text.specs.Inner.Written.{Ends, WrittenAt}
 use Rattle.text.proofs.TextLaws.{decimal_short}
@@ -16,7 +18,6 @@ use Rattle.layout.specs.Layout.{keys_in, arena_in}
 use Rattle.records.specs.Model.{Entry}
 use Rattle.records.proofs.PassedLaws.{entries_count}
 use Rattle.point.specs.Table.{table_of}
-use Rattle.lines.specs.declared.Listed.TheVariants.{Text, Refused}
 use Rattle.lines.specs.Shown.{Rule, shown_of}
 use Rattle.lines.specs.Listing.{refused_word, newline, lines_of, listing_header, table_text, refused_text, listed_of, buffer_of}
 use Rattle.lines.specs.Inner.Steps.{Lists}
@@ -53,26 +54,26 @@ refused_ends r h = record { inside = omega (arith, refused_length r, decimal_sho
 -- ---- the buffer
 
 module _ {text before none rest : List ℕ} {size : ℕ} (measured : WrittenAt none 0 text rest size) where
-  pub lists_short : length before < size → Lists text before (Refused 6) before
+  pub lists_short : length before < size → Lists text before (Err Buffer) before
   unfolding listed_of buffer_of
   lists_short h =
       let g = lt-leb (length text) (length before) (omega (arith, measured.place)) in
       record { answer = rw g; buffer = rw g }
 
-  pub lists_fit : {after : List ℕ} {end : ℕ} → size ≤ length before → WrittenAt before 0 text after end → Lists text before (Text size) after
+  pub lists_fit : {after : List ℕ} {end : ℕ} → size ≤ length before → WrittenAt before 0 text after end → Lists text before (Ok size) after
   unfolding listed_of buffer_of
   lists_fit h w =
       let g = le-leb (length text) (length before) (omega (arith, measured.place)) in
       record {
-        answer = rw g (ap Text (measured.place ∙ zero-add (length text)));
+        answer = rw g (ap Ok (measured.place ∙ zero-add (length text)));
         buffer = rw g (w.buffer ∙ splice_sets before 0 text (omega (arith, measured.place)));
       }
 
 -- a text that is listed lies in the buffer
-pub listed_fits : (text before : List ℕ) (n : ℕ) → Text n ≡ listed_of text before → n ≤ length before
+pub listed_fits : (text before : List ℕ) (n : ℕ) → Ok n ≡ listed_of text before → n ≤ length before
 unfolding listed_of
 listed_fits text before n e = go (leb (length text) (length before)) refl e
   where
-    go : (b : Bool) → leb (length text) (length before) ≡ b → Text n ≡ cond b (Text (length text)) (Refused 6) → n ≤ length before
+    go : (b : Bool) → leb (length text) (length before) ≡ b → Ok n ≡ cond b (Ok (length text)) (Err Buffer) → n ≤ length before
     go true q f = let d : n ≡ length text = cc in let l = leb-true (length text) (length before) q in omega arith
     go false q f = absurd (let z : ◌≡◌ {A = ℕ} 0 1 = cc in omega arith)

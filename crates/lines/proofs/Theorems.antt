@@ -1,5 +1,6 @@
 -- What is promised of the listing: which keys are shown and with which record, that keys rise, that the
 -- call's answer and buffer are fixed, its number and value, and the room that always suffices. Assumes nothing.
+use Rattle.std.specs.Prelude.{None, Some, Result, Ok, Err}
 use Prim.Native.Nat.{ℕ, ◌<◌, ◌≤◌}
 use native.Mathlib.Omega.{arith}
 use mathlib.Core.Path.{◌≡◌, refl, sym, ap, ◌∙◌, subst}
@@ -9,21 +10,21 @@ use mathlib.Core.Option.{Option, none, some}
 use lib.ListN.{length}
 use borrow.Author.Tests.{leb-false, le-leb, lt-leb}
 use lib.Dec.{leb}
+use Rattle.numbers.specs.declared.Refusal.{Refusal}
+use Rattle.numbers.specs.declared.Refusal.TheVariants.{Buffer}
+use Rattle.numbers.specs.Numbers.{number_of}
 use Rattle.words.specs.Field.{splice}
-use Rattle.words.specs.declared.part.Order.TheVariants.{Less}
+use Rattle.std.specs.declared.cmp.Ordering.TheVariants.{Less}
 use Rattle.words.specs.Part.{order_of, same_as}
 use Rattle.words.proofs.Ordered.{same_equal, order_trans}
-use Rattle.records.specs.declared.Limit.{Limit}
-use Rattle.records.specs.declared.Limit.TheVariants.{None, UpTo}
+use Rattle.records.specs.Limits.{Limit}
 use Rattle.records.specs.declared.Record.{Record}
 use Rattle.records.specs.Model.{Entry, records_of, greatest, lookup, Rises}
 use Rattle.records.specs.Model.Rises.{rises_more}
 use Rattle.records.proofs.ModelLaws.{own_lookup}
-use Rattle.lines.specs.declared.Listed.{Listed}
-use Rattle.lines.specs.declared.Listed.TheVariants.{Text, Refused}
 use Rattle.lines.specs.Shown.{Rule, tombstone_in, newest_tombstone, shown, Shows, shows_for, shown_of, ShownRise}
 use Rattle.lines.specs.Shown.ShownRise.{shown_none, shown_one, shown_more}
-use Rattle.lines.specs.Listing.{text_of, listed_of, buffer_of, listed_number, listed_values, Listing}
+use Rattle.lines.specs.Listing.{text_of, listed_of, buffer_of, listed_values, Listing}
 
 -- ---- which keys are shown, by a rule that leaves a key out by its lookups in the table
 
@@ -34,20 +35,20 @@ newest_out t rises limit e among = ap tombstone_in (own_lookup t e None rises am
 
 module _ (rule : Rule) (limit : ℕ) (t : List Entry) (rises : Rises t) (out : List ℕ → Bool) (ruled : (e : Entry) → Memᴰ e t → rule limit e ≡ out e.key) where
   module _ (e : Entry) (among : Memᴰ e t) where
-    shown_is : shown rule limit e ≡ cond (out e.key) none (lookup t e.key (UpTo limit))
+    shown_is : shown rule limit e ≡ cond (out e.key) none (lookup t e.key (Some limit))
     unfolding shown
-    shown_is = rw (ruled e among, own_lookup t e (UpTo limit) rises among)
+    shown_is = rw (ruled e among, own_lookup t e (Some limit) rises among)
 
     -- THEOREM: a key that is shown is not left out, and shows its lookup under the limit
-    pub shown_only : (r : Record) → shown rule limit e ≡ some r → (out e.key ≡ false) × (lookup t e.key (UpTo limit) ≡ some r)
+    pub shown_only : (r : Record) → shown rule limit e ≡ some r → (out e.key ≡ false) × (lookup t e.key (Some limit) ≡ some r)
     shown_only r q = go (out e.key) refl (sym shown_is ∙ q)
       where
-        go : (b : Bool) → out e.key ≡ b → cond b none (lookup t e.key (UpTo limit)) ≡ some r → (out e.key ≡ false) × (lookup t e.key (UpTo limit) ≡ some r)
+        go : (b : Bool) → out e.key ≡ b → cond b none (lookup t e.key (Some limit)) ≡ some r → (out e.key ≡ false) × (lookup t e.key (Some limit) ≡ some r)
         go true p f = absurd (let z : ◌≡◌ {A = ℕ} 0 1 = cc in omega arith)
         go false p f = (p, f)
 
     -- THEOREM: and every such key is shown
-    pub shown_all : (r : Record) → out e.key ≡ false → lookup t e.key (UpTo limit) ≡ some r → shown rule limit e ≡ some r
+    pub shown_all : (r : Record) → out e.key ≡ false → lookup t e.key (Some limit) ≡ some r → shown rule limit e ≡ some r
     shown_all r p q = shown_is ∙ rw p q
 
 -- ---- by the table's lookups
@@ -112,16 +113,16 @@ entry_of (x ∷ xs) key limit r e = go (same_as x.key key) refl e (entry_of xs k
 
 module _ (rule : Rule) (limit : ℕ) (t : List Entry) (rises : Rises t) (out : List ℕ → Bool) (ruled : (e : Entry) → Memᴰ e t → rule limit e ≡ out e.key) where
   -- THEOREM: a line stands only for a key that is not left out, and shows its lookup under the limit
-  pub line_only : (s : Shows) → Memᴰ s (shown_of rule limit t) → (out s.key ≡ false) × (lookup t s.key (UpTo limit) ≡ some s.version)
+  pub line_only : (s : Shows) → Memᴰ s (shown_of rule limit t) → (out s.key ≡ false) × (lookup t s.key (Some limit) ≡ some s.version)
   line_only s m =
       let b = shown_by_lem rule limit t s m in
-      subst (λ (k : List ℕ). (out k ≡ false) × (lookup t k (UpTo limit) ≡ some s.version)) b.key
+      subst (λ (k : List ℕ). (out k ≡ false) × (lookup t k (Some limit) ≡ some s.version)) b.key
       (shown_only rule limit t rises out ruled b.entry b.among s.version b.shows)
 
   -- THEOREM: and for every such key
-  pub line_all : (key : List ℕ) (r : Record) → out key ≡ false → lookup t key (UpTo limit) ≡ some r → Memᴰ (record { key = key; version = r }) (shown_of rule limit t)
+  pub line_all : (key : List ℕ) (r : Record) → out key ≡ false → lookup t key (Some limit) ≡ some r → Memᴰ (record { key = key; version = r }) (shown_of rule limit t)
   line_all key r p q =
-      let o = entry_of t key (UpTo limit) r q in
+      let o = entry_of t key (Some limit) r q in
       subst (λ (k : List ℕ). Memᴰ (record { key = k; version = r }) (shown_of rule limit t)) o.same
       (by_shown rule limit t o.entry r o.among
       (shown_all rule limit t rises out ruled o.entry o.among r (rw o.same p) (rw o.same q)))
@@ -160,31 +161,31 @@ keys_rise rule limit (e ∷ f ∷ es) (rises_more b g) = go (shown rule limit e)
 
 -- ---- the call
 
-module _ {rule : Rule} {input before : List ℕ} {r : Listed} {after : List ℕ} (P : Listing rule input before r after) where
+module _ {rule : Rule} {input before : List ℕ} {r : Result ℕ Refusal} {after : List ℕ} (P : Listing rule input before r after) where
   -- THEOREM: a number above 0 is 6, for a buffer too short, which is left
-  pub listing_cause : (n : ℕ) → 0 < n → listed_number r ≡ n → (n ≡ 6) × (length before < length (text_of rule input)) × (after ≡ before)
+  pub listing_cause : (n : ℕ) → 0 < n → number_of r ≡ n → (n ≡ 6) × (length before < length (text_of rule input)) × (after ≡ before)
   unfolding listed_of buffer_of
-  listing_cause n h e = go (leb (length (text_of rule input)) (length before)) refl (ap listed_number (sym P.answer) ∙ e)
+  listing_cause n h e = go (leb (length (text_of rule input)) (length before)) refl (ap number_of (sym P.answer) ∙ e)
     where
-      go : (b : Bool) → leb (length (text_of rule input)) (length before) ≡ b → listed_number (cond b (Text (length (text_of rule input))) (Refused 6)) ≡ n
+      go : (b : Bool) → leb (length (text_of rule input)) (length before) ≡ b → number_of (cond b (Ok (length (text_of rule input))) (Err Buffer)) ≡ n
           → (n ≡ 6) × (length before < length (text_of rule input)) × (after ≡ before)
       go true q f = absurd (omega arith)
       go false q f = (sym f, leb-false _ _ q, P.buffer ∙ rw q)
 
-  pub cause_listing : length before < length (text_of rule input) → listed_number r ≡ 6
+  pub cause_listing : length before < length (text_of rule input) → number_of r ≡ 6
   unfolding listed_of
-  cause_listing l = ap listed_number P.answer ∙ rw (lt-leb (length (text_of rule input)) (length before) l)
+  cause_listing l = ap number_of P.answer ∙ rw (lt-leb (length (text_of rule input)) (length before) l)
 
   -- THEOREM: with room the number is 0 and the value the text's length, and the text stands in front
   pub room_values : length (text_of rule input) ≤ length before
-      → (listed_number r ≡ 0) × (listed_values r ≡ length (text_of rule input) ∷ []) × (after ≡ splice before 0 (text_of rule input))
+      → (number_of r ≡ 0) × (listed_values r ≡ length (text_of rule input) ∷ []) × (after ≡ splice before 0 (text_of rule input))
   unfolding listed_of buffer_of
   room_values l =
       let t = le-leb (length (text_of rule input)) (length before) l in
-      let a : r ≡ Text (length (text_of rule input)) = P.answer ∙ rw t in
-      (ap listed_number a, ap listed_values a, P.buffer ∙ rw t)
+      let a : r ≡ Ok (length (text_of rule input)) = P.answer ∙ rw t in
+      (ap number_of a, ap listed_values a, P.buffer ∙ rw t)
 
   -- THEOREM: 131,072 bytes of room suffice for every input
-  pub room_suffices : 131072 ≤ length before → r ≡ Text (length (text_of rule input))
+  pub room_suffices : 131072 ≤ length before → r ≡ Ok (length (text_of rule input))
   unfolding listed_of
   room_suffices h = P.answer ∙ rw (le-leb (length (text_of rule input)) (length before) (omega (arith, P.room)))

@@ -1,7 +1,6 @@
 -- The exact cause of each number that the listing prints as `refused R`: 16, and validation's 20 to 30; and which inputs are listed (document
 -- 01, "The listing").
-use Rattle.std.specs.Prelude.{ℕ, ◌<◌, ◌≤◌, ◌≡◌, List, length}
-use Rattle.point.specs.declared.Validated.TheVariants.{Accepted}
+use Rattle.std.specs.Prelude.{ℕ, ◌<◌, ◌≤◌, ◌≡◌, List, length, Ok}
 use Rattle.point.specs.Validate.{validate_of}
 use Rattle.point.specs.Causes.{ValidationStops}
 use Rattle.lines.specs.Listing.{data_length_in, body_in}
@@ -15,4 +14,4 @@ pub data ListingStops (input : List ℕ) : ℕ → Type 0 where
 -- an input of no more than 65,536 bytes whose body validation accepts for its data length
 pub record Listable (input : List ℕ) : Type 0 where
   pub short : length input ≤ 65536
-  pub accepted : validate_of (body_in input) (data_length_in input) ≡ Accepted
+  pub accepted : validate_of (body_in input) (data_length_in input) ≡ Ok (record {})

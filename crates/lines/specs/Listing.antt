@@ -1,16 +1,17 @@
 -- The text of a listing: a function from input bytes to output bytes (document 01, "The listing").
-use Rattle.std.specs.Prelude.{ℕ, zero, suc, ◌+◌, ◌≤◌, ◌≡◌, cond, List, [], ◌∷◌, ◌++◌, ltb, leb, eqb, length, drop}
+use Rattle.std.specs.Prelude.{ℕ, zero, suc, ◌+◌, ◌≤◌, ◌≡◌, cond, List, [], ◌∷◌, ◌++◌, ltb, leb, eqb, length, drop, Result, Ok, Err}
 use Rattle.laws.specs.Refusals.{cause, first_of, or_else}
 use Rattle.words.specs.Field.{le, splice}
 use Rattle.text.specs.Text.{key_text, field, named}
+use Rattle.numbers.specs.declared.Refusal.{Refusal}
+use Rattle.numbers.specs.declared.Refusal.TheVariants.{Buffer}
+use Rattle.numbers.specs.Numbers.{number_of}
 use Rattle.records.specs.declared.Kind.{Kind}
 use Rattle.records.specs.declared.Kind.TheVariants.{Put, Tombstone}
 use Rattle.records.specs.declared.Record.{Record}
 use Rattle.records.specs.Model.{Entry}
-use Rattle.point.specs.Validate.{validate_of, refusal_number}
+use Rattle.point.specs.Validate.{validate_of}
 use Rattle.point.specs.Table.{table_of}
-use Rattle.lines.specs.declared.Listed.{Listed}
-use Rattle.lines.specs.declared.Listed.TheVariants.{Text, Refused}
 use Rattle.lines.specs.Shown.{Rule, Shows, shown_of}
 
 -- ---- the words: limit, keys, shown, refused; put, tomb
@@ -87,7 +88,7 @@ size_refusal input = first_of (cause (ltb (length input) 16) 16 ∷ cause (ltb 6
 
 -- 16, then validation's numbers; 0 where the input is listed
 unfoldable pub listing_refusal : List ℕ → ℕ
-listing_refusal input = or_else (size_refusal input) (refusal_number (validate_of (body_in input) (data_length_in input)))
+listing_refusal input = or_else (size_refusal input) (number_of (validate_of (body_in input) (data_length_in input)))
 
 -- the text that a refusal, or none, gives
 abbrev pub text_by : Rule → List ℕ → ℕ → List ℕ
@@ -101,24 +102,20 @@ text_of rule input = text_by rule input (listing_refusal input)
 -- ---- the call's answer and its buffer
 
 -- the text's length, or 6 where the buffer is too short for it
-unfoldable pub listed_of : (text before : List ℕ) → Listed
-listed_of text before = cond (leb (length text) (length before)) (Text (length text)) (Refused 6)
+unfoldable pub listed_of : (text before : List ℕ) → Result ℕ Refusal
+listed_of text before = cond (leb (length text) (length before)) (Ok (length text)) (Err Buffer)
 
 -- the text at the buffer's start, what is behind it untouched; or the buffer untouched
 unfoldable pub buffer_of : (text before : List ℕ) → List ℕ
 buffer_of text before = cond (leb (length text) (length before)) (splice before 0 text) before
 
--- the paper's number of an answer: 0 listed (also where the text is `refused R`), else the refusal's; and its value, the text's length
-abbrev pub listed_number : Listed → ℕ
-listed_number (Text n) = 0
-listed_number (Refused r) = r
-
-abbrev pub listed_values : Listed → List ℕ
-listed_values (Text n) = n ∷ []
-listed_values (Refused r) = []
+-- the value of an answer, the text's length, where it is listed (also where the text is `refused R`)
+abbrev pub listed_values : Result ℕ Refusal → List ℕ
+listed_values (Ok n) = n ∷ []
+listed_values (Err r) = []
 
 -- what `listing` promises for every input: its answer, every byte of its buffer, and that 131,072 bytes always suffice
-pub record Listing (rule : Rule) (input before : List ℕ) (r : Listed) (after : List ℕ) : Type 0 where
+pub record Listing (rule : Rule) (input before : List ℕ) (r : Result ℕ Refusal) (after : List ℕ) : Type 0 where
   pub answer : r ≡ listed_of (text_of rule input) before
   pub buffer : after ≡ buffer_of (text_of rule input) before
   pub room : length (text_of rule input) ≤ 131072

@@ -1,12 +1,11 @@
 -- What a listing shows of a table, under a rule (document 01, "The listing").
-use Rattle.std.specs.Prelude.{ℕ, Bool, true, false, cond, List, [], ◌∷◌, ◌≡◌}
+use Rattle.std.specs.Prelude.{ℕ, Bool, true, false, cond, List, [], ◌∷◌, ◌≡◌, None, Some}
 use Rattle.std.proofs.Math.Option.{Option, none, some}
-use Rattle.words.specs.declared.part.Order.TheVariants.{Less}
+use Rattle.std.specs.declared.cmp.Ordering.TheVariants.{Less}
 use Rattle.words.specs.Part.{order_of}
 use Rattle.records.specs.declared.Kind.{Kind}
 use Rattle.records.specs.declared.Kind.TheVariants.{Put, Tombstone}
 use Rattle.records.specs.declared.Record.{Record}
-use Rattle.records.specs.declared.Limit.TheVariants.{None, UpTo}
 use Rattle.records.specs.Model.{Entry, record_within}
 
 -- a rule: whether an entry is left out under a limit
@@ -27,7 +26,7 @@ newest_tombstone limit e = tombstone_in (record_within None e)
 
 -- the record that an entry shows: any entry that is not left out shows its record within the limit, if there is one
 unfoldable pub shown : Rule → ℕ → Entry → Option Record
-shown rule limit e = cond (rule limit e) none (record_within (UpTo limit) e)
+shown rule limit e = cond (rule limit e) none (record_within (Some limit) e)
 
 -- a key with the record that it shows
 pub record Shows : Type 0 where

@@ -1,8 +1,9 @@
 // The listing: what the desk prints and compares by hand, as a function from input bytes to output bytes.
 #![tactic(auto)]
 
-ghost use Rattle.std.specs.Prelude.{◌≡◌, length};
+ghost use Rattle.std.specs.Prelude.{◌≡◌, ℕ, List, length};
 ghost use Rattle.text.specs.Inner.Written.{Ends, WrittenAt};
+ghost use Rattle.numbers.specs.Numbers.{number, number_of};
 ghost use Rattle.records.specs.Places.{entry_at};
 ghost use Rattle.records.specs.Within.{found_of};
 ghost use Rattle.records.specs.Inner.Stands.{EntryStands};
@@ -10,35 +11,26 @@ ghost use Rattle.point.specs.Table.{table_of};
 ghost use Rattle.point.specs.Inner.Stands.{TableStands};
 ghost use Rattle.lines.specs.Shown.{newest_tombstone, shown, shown_of};
 ghost use Rattle.lines.specs.Listing.{kind_word, record_text, line_of, text_of_shown, lines_of, listing_header, table_text, refused_text, listing_refusal, Listing};
-ghost use Rattle.lines.specs.Inner.Steps.{tombstone_found, shown_by, Lined, Lists};
+ghost use Rattle.lines.specs.Inner.Steps.{tombstone_found, shown_by, Lined, Lists, Puts};
 
+use layout::Header;
 use numbers::Refusal;
-use point::Validated;
-use records::cursor::key_at;
+use records::cursor::{key_at, next_entry};
 use records::search::entry_within;
-use records::{Kind, Limit, Record, Within};
+use records::{Kind, Record, Within};
 use words::field;
 
-// What a listing answers: the text's length, or the refusal of a buffer that is too short for it.
-#[derive(Drop)]
-pub enum Listed {
-    Text(usize),
-    Refused(u8),
-}
+// The bytes of an input before the body: u64 limit, u64 data length.
+pub const BODY: usize = 16;
 
-impl Listed {
-    // The bytes before the body: u64 limit, u64 data length.
-    pub const BODY: usize = 16;
+// The longest input.
+pub const MAX_INPUT: usize = 65_536;
 
-    // The longest input.
-    pub const MAX_INPUT: usize = 65_536;
-
-    // Room that suffices for every text.
-    pub const ROOM: usize = 131_072;
-}
+// Room that suffices for every text.
+pub const ROOM: usize = 131_072;
 
 // Lines that were written: the place after them, and how many there are.
-#[derive(Drop)]
+#[derive(Clone, Copy)]
 pub struct Lines {
     pub end: usize,
     pub shown: u64,
@@ -60,9 +52,8 @@ fn put_record(out: &mut [u8], at: usize, version: Record) -> usize
     requires { Ends at (record_text version) }
     ensures { WrittenAt out.old at (record_text version) out.new result }
 {
-    let kind = version.kind;
     let a = text::put_field(out, at, version.sequence);
-    let b = put_kind(out, a, kind);
+    let b = put_kind(out, a, version.kind);
     let c = text::put_field(out, b, version.offset);
     let d = text::put_field(out, c, version.length as u64);
     text::put_byte(out, d, b'\n')
@@ -82,15 +73,8 @@ fn tombstone_found(found: Within) -> bool
     ensures { result ≡ tombstone_found found }
 {
     match found {
-        Within::Found(r) => {
-            let kind = r.kind;
-            match kind {
-                Kind::Put => false,
-                Kind::Tombstone => true,
-            }
-        }
-        Within::Nothing => false,
-        Within::Damaged => false,
+        Within::Found(r) => r.kind == Kind::Tombstone,
+        Within::Nothing | Within::Damaged => false,
     }
 }
 
@@ -99,11 +83,11 @@ fn shown_at(body: &[u8], limit: u64, p: usize) -> Within
     requires { EntryStands body.now p }
     ensures { result ≡ found_of (shown newest_tombstone limit (entry_at body.now p)) }
 {
-    let newest = entry_within(body, p, Limit::None);
+    let newest = entry_within(body, p, None);
     if tombstone_found(newest) {
         return Within::Nothing;
     }
-    entry_within(body, p, Limit::UpTo(limit))
+    entry_within(body, p, Some(limit))
 }
 
 // Writes the line of the entry at p, if it shows a record.
@@ -111,14 +95,12 @@ fn put_entry(out: &mut [u8], at: usize, body: &[u8], limit: u64, p: usize) -> Li
     requires { EntryStands body.now p × Ends at (text_of_shown (shown_by newest_tombstone limit (entry_at body.now p))) }
     ensures { Lined (shown_by newest_tombstone limit (entry_at body.now p)) out.old at out.new result }
 {
-    let found = shown_at(body, limit, p);
-    match found {
+    match shown_at(body, limit, p) {
         Within::Found(r) => {
             let end = put_line(out, at, key_at(body, p), r);
             Lines { end, shown: 1 }
         }
-        Within::Nothing => Lines { end: at, shown: 0 },
-        Within::Damaged => Lines { end: at, shown: 0 },
+        Within::Nothing | Within::Damaged => Lines { end: at, shown: 0 },
     }
 }
 
@@ -129,14 +111,14 @@ fn put_lines(out: &mut [u8], at: usize, body: &[u8], limit: u64) -> Lines
 {
     let mut end = at;
     let mut shown: u64 = 0;
-    let mut p = layout::arena_in(body) as usize;
-    let mut left = layout::keys_in(body);
-    while 0 < left {
+    let header = Header::read(body);
+    let n = header.keys;
+    let mut p = header.arena as usize;
+    for _ in 0..n {
         let l = put_entry(out, end, body, limit, p);
         end = l.end;
         shown += l.shown;
-        p = records::cursor::next_entry(body, p);
-        left -= 1;
+        p = next_entry(body, p);
     }
     Lines { end, shown }
 }
@@ -153,11 +135,11 @@ fn put_header(out: &mut [u8], at: usize, limit: u64, keys: u64, shown: u64) -> u
 }
 
 // Writes `refused R`.
-fn put_refused(out: &mut [u8], at: usize, refusal: u8) -> usize
-    requires { Ends at (refused_text refusal) }
-    ensures { WrittenAt out.old at (refused_text refusal) out.new result }
+fn put_refused(out: &mut [u8], at: usize, refusal: Refusal) -> usize
+    requires { Ends at (refused_text (number refusal)) }
+    ensures { WrittenAt out.old at (refused_text (number refusal)) out.new result }
 {
-    let next = text::put_named(out, at, b"refused", refusal as u64);
+    let next = text::put_named(out, at, b"refused", refusal.number() as u64);
     text::put_byte(out, next, b'\n')
 }
 
@@ -166,9 +148,7 @@ fn count_shown(body: &[u8], limit: u64) -> u64
     requires { TableStands body.now × Ends 0 (lines_of newest_tombstone limit (table_of body.now)) }
     ensures { result ≡ length (shown_of newest_tombstone limit (table_of body.now)) }
 {
-    let mut none = [0u8; 0];
-    let l = put_lines(&mut none, 0, body, limit);
-    l.shown
+    put_lines(&mut [], 0, body, limit).shown
 }
 
 // Writes the listing of a body that shows so many keys.
@@ -176,64 +156,49 @@ fn put_table(out: &mut [u8], at: usize, body: &[u8], limit: u64, shown: u64) -> 
     requires { TableStands body.now × (shown ≡ length (shown_of newest_tombstone limit (table_of body.now))) × Ends at (table_text newest_tombstone limit (table_of body.now)) }
     ensures { WrittenAt out.old at (table_text newest_tombstone limit (table_of body.now)) out.new result }
 {
-    let keys = layout::keys_in(body) as u64;
+    let keys = Header::read(body).keys as u64;
     let next = put_header(out, at, limit, keys, shown);
-    let l = put_lines(out, next, body, limit);
-    l.end
+    put_lines(out, next, body, limit).end
 }
 
-// Lists a body: the text is measured first, so nothing is written where the buffer is too short.
-fn list_table(out: &mut [u8], body: &[u8], limit: u64) -> Listed
+// Lists what a writer puts into the buffer that it is lent: it is measured first, so nothing is written where the buffer is too short.
+fn list<F: Fn(&mut [u8]) -> usize>(out: &mut [u8], put: F) -> Result<usize, Refusal>
+    requires { F.IsAlwaysCallable put }
+    ensures { (text : List ℕ) → Puts F.Fn put text → Lists text out.old result out.new }
+{
+    let size = put(&mut []);
+    if out.len() < size {
+        return Err(Refusal::Buffer);
+    }
+    put(out);
+    Ok(size)
+}
+
+// Lists a body.
+fn list_table(out: &mut [u8], body: &[u8], limit: u64) -> Result<usize, Refusal>
     requires { TableStands body.now × Ends 0 (table_text newest_tombstone limit (table_of body.now)) }
     ensures { Lists (table_text newest_tombstone limit (table_of body.now)) out.old result out.new }
 {
     let shown = count_shown(body, limit);
-    let mut none = [0u8; 0];
-    let size = put_table(&mut none, 0, body, limit, shown);
-    if out.len() < size {
-        return Listed::Refused(Refusal::BUFFER);
-    }
-    put_table(out, 0, body, limit, shown);
-    Listed::Text(size)
+    list(out, |out| put_table(out, 0, body, limit, shown))
 }
 
-// Lists a refusal.
-fn list_refusal(out: &mut [u8], refusal: u8) -> Listed
-    ensures { Lists (refused_text refusal) out.old result out.new }
+// Refuses an input by 16, and by what validation refuses its body with.
+fn check_input(input: &[u8]) -> Result<(), Refusal>
+    ensures { number_of result ≡ listing_refusal input.now }
 {
-    let mut none = [0u8; 0];
-    let size = put_refused(&mut none, 0, refusal);
-    if out.len() < size {
-        return Listed::Refused(Refusal::BUFFER);
+    if input.len() < BODY || MAX_INPUT < input.len() {
+        return Err(Refusal::Input);
     }
-    put_refused(out, 0, refusal);
-    Listed::Text(size)
-}
-
-// The number that an input is refused with, or 0.
-fn refusal_of(input: &[u8]) -> u8
-    ensures { result ≡ listing_refusal input.now }
-{
-    if input.len() < Listed::BODY {
-        return Refusal::INPUT;
-    }
-    if Listed::MAX_INPUT < input.len() {
-        return Refusal::INPUT;
-    }
-    let v = point::validate(&input[Listed::BODY..], field::u64_at(input, 8));
-    match v {
-        Validated::Accepted => 0,
-        Validated::Refused(r) => r,
-    }
+    point::validate(&input[BODY..], field::u64_at(input, 8))
 }
 
 // Lists an input: u64 limit, u64 data length, body.
-pub fn listing(input: &[u8], out: &mut [u8]) -> Listed
+pub fn listing(input: &[u8], out: &mut [u8]) -> Result<usize, Refusal>
     ensures { Listing newest_tombstone input.now out.old result out.new }
 {
-    let refusal = refusal_of(input);
-    if refusal != 0 {
-        return list_refusal(out, refusal);
+    match check_input(input) {
+        Ok(()) => list_table(out, &input[BODY..], field::u64_at(input, 0)),
+        Err(refusal) => list(out, |out| put_refused(out, 0, refusal)),
     }
-    list_table(out, &input[Listed::BODY..], field::u64_at(input, 0))
 }

@@ -3,14 +3,13 @@
 
 ghost use Rattle.std.specs.Prelude.{◌≤◌, length};
 
-use lines::Listed;
 use std::io;
 use std::io::Print;
 use vectors::Count;
 use words::{field, part};
 
 // The counts of each op; and where the base body stands in the file, a `bytes` field.
-#[derive(Drop)]
+#[derive(Default, Drop)]
 pub struct Tally {
     listing: Count,
     raw: Count,
@@ -20,15 +19,9 @@ pub struct Tally {
 // Whether an input gives a text.
 fn text_agrees(input: &[u8], want: &[u8]) -> bool {
     let mut out = [0xa5u8; 16384];
-    let answer = lines::listing(input, &mut out);
-    match answer {
-        Listed::Text(size) => {
-            if 16384 < size {
-                return false;
-            }
-            part::same(&out[..size], want)
-        }
-        Listed::Refused(_) => false,
+    match lines::listing(input, &mut out) {
+        Ok(size) => size <= 16384 && part::same(&out[..size], want),
+        Err(_) => false,
     }
 }
 
@@ -68,31 +61,19 @@ fn edges() -> Count {
     let zeros = [0u8; 65537];
     let longest = text_agrees(&zeros[..65536], b"refused 20\n");
     let longer = text_agrees(&zeros, b"refused 16\n");
-    Count::new().counted(longest).counted(longer)
+    Count::default().counted(longest).counted(longer)
 }
 
 impl Tally {
-    // No case yet.
-    pub fn new() -> Self {
-        Tally {
-            listing: Count::new(),
-            raw: Count::new(),
-            body: 0,
-        }
-    }
-
     // Replays the case whose payload is the `bytes` field at a place of the file.
     pub fn replayed(mut self, file: &[u8], op: u8, place: usize) -> Tally {
         let p = vectors::bytes_in(file, place);
-        let body = self.body;
-        if op == 0x20 {
-            self.body = vectors::end_in(file, place, 4);
-        } else if op == 0x23 {
-            self.listing = self
-                .listing
-                .counted(listing_agrees(vectors::bytes_in(file, body), p));
-        } else if op == 0x24 {
-            self.raw = self.raw.counted(raw_agrees(p));
+        let body = vectors::bytes_in(file, self.body);
+        match op {
+            0x20 => self.body = vectors::end_in(file, place, 4),
+            0x23 => self.listing = self.listing.counted(listing_agrees(body, p)),
+            0x24 => self.raw = self.raw.counted(raw_agrees(p)),
+            _ => {}
         }
         self
     }

@@ -18,10 +18,7 @@ impl Pilot {
 pub fn buckets(n: usize) -> usize
     ensures { result ≡ buckets_of n }
 {
-    if n % Pilot::KEYS == 0 {
-        return n / Pilot::KEYS;
-    }
-    n / Pilot::KEYS + 1
+    n.div_ceil(Pilot::KEYS)
 }
 
 // The slot, of n, that a pilot gives a hash.

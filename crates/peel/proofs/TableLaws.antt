@@ -58,9 +58,6 @@ module _ (f : ℕ → ℕ) where
     pub size : length d ≡ length d₀
     pub whole_is : changed f (drop i ps) d ≡ changed f ps d₀
 
-  pub changing_start : (ps d : List ℕ) → Changing ps d 0 d
-  changing_start ps d = record { size = refl; whole_is = refl }
-
   -- the next cell lies inside
   pub changing_in : (ps d₀ : List ℕ) (i : ℕ) (d : List ℕ) → i < length ps → Below (length d₀) ps → Changing ps d₀ i d → get_or ps i 0 < length d
   changing_in ps d₀ i d hi b A = omega (arith, A.size, cell_at_below (length d₀) ps b i hi)
@@ -107,15 +104,6 @@ queued_push c top p xs h r e =
           ∙ ap (λ (b : Bool). keep b p (stack c top xs)) (sym (eq-eqb _ _ e));
       degrees = λ v l. get_or-set_other xs (c + top) v p 0 (λ z. omega arith);
       behind = λ v l. get_or-set_other xs (c + top) v p 0 (λ z. omega arith);
-    }
-
--- any other does not
-pub queued_pass : (c top p : ℕ) (xs : List ℕ) → (get_or xs p 0 ≡ 1 → ⊥) → Queued c (keep (eqb (get_or xs p 0) 1) p (stack c top xs)) top xs xs
-queued_pass c top p xs e =
-    record {
-      waiting = ap (λ (b : Bool). keep b p (stack c top xs)) (sym (ne_eqb _ _ e));
-      degrees = λ v l. refl;
-      behind = λ v l. refl;
     }
 
 -- a cell written behind the queue stays if its degree is 1
@@ -353,9 +341,6 @@ rising_next p c h =
 
 pub rising_over : (p c : ℕ) → c ≤ p → rising p (c - p) ≡ []
 rising_over p c h = let k : c - p ≡ 0 = omega arith in rw k (rising_none p)
-
-pub noting_start : (c : ℕ) (d ps : List ℕ) (top : ℕ) → Noting c d (queued_by d ps (stack c top d)) ps top d
-noting_start c d ps top = record { size = refl; whole_is = refl; degrees = λ v h. refl; behind = λ v h. refl }
 
 pub noting_ones : (c : ℕ) (d : List ℕ) → Noting c d (queued_by d (rising 0 c) []) (rising 0 (c - 0)) 0 d
 noting_ones c d =

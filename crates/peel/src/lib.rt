@@ -7,8 +7,6 @@ ghost use Rattle.fuse.specs.Positions.{positions_of};
 ghost use Rattle.peel.specs.Peel.{Attempt, one_step, begun, attempt, fill, mixed, AttemptPost};
 ghost use Rattle.peel.specs.Inner.Table.{stack, queued_by, changed, plus, peels_in, Queued, Tables, StandsFor, Below, GraphWhole};
 
-use words::part;
-
 // What a hash adds to the degrees of its cells, which wrap: 1 where it joins them, and 2^32 − 1, which is one less, where it leaves them.
 const JOINS: u32 = 1;
 
@@ -19,12 +17,9 @@ fn change(narrow: &mut [u32], wide: &mut [u64], cells: &[usize], h: u64, by: u32
     requires { Below (length narrow.old) cells.now × Below (length wide.old) cells.now }
     ensures { (narrow.new ≡ changed (plus by) cells.now narrow.old) × (wide.new ≡ changed (bit_xor h) cells.now wide.old) }
 {
-    let mut i = 0;
-    while i < cells.len() {
-        let p = cells[i];
-        narrow[p] = std::num::wrapping_add_u32(by, narrow[p]);
-        wide[p] = h ^ wide[p];
-        i += 1;
+    for p in cells {
+        narrow[*p] = by.wrapping_add(narrow[*p]);
+        wide[*p] = h ^ wide[*p];
     }
 }
 
@@ -46,13 +41,11 @@ fn queue_ones(narrow: &mut [u32], c: usize) -> usize
     ensures { Queued c (queued_by narrow.old (rising 0 c) []) result narrow.old narrow.new }
 {
     let mut top = 0;
-    let mut p = 0;
-    while p < c {
+    for p in 0..c {
         narrow[c + top] = p as u32;
         if narrow[p] == 1 {
             top += 1;
         }
-        p += 1;
     }
     top
 }
@@ -63,11 +56,8 @@ fn queue_cells(narrow: &mut [u32], c: usize, top: usize, cells: &[usize]) -> usi
     ensures { Queued c (queued_by narrow.old cells.now (stack c top narrow.old)) result narrow.old narrow.new }
 {
     let mut t = top;
-    let mut i = 0;
-    while i < cells.len() {
-        let p = cells[i];
-        t = note(narrow, c, t, p);
-        i += 1;
+    for p in cells {
+        t = note(narrow, c, t, *p);
     }
     t
 }
@@ -86,9 +76,7 @@ fn load(hashes: &[u64], wide: &mut [u64], narrow: &mut [u32], g: Graph)
     requires { GraphWhole g × (length hashes.now + 1 < 2 ^ 32) × Tables (positions_of g.segment g.count) g.cells [] narrow.old wide.old }
     ensures { Tables (positions_of g.segment g.count) g.cells (mixed g.seed hashes.now) narrow.new wide.new }
 {
-    let mut i = hashes.len();
-    while 0 < i {
-        i -= 1;
+    for i in (0..hashes.len()).rev() {
         let h = fuse::graph_hash(g.seed, hashes[i]);
         let four = fuse::positions(g.segment, g.count, h);
         change(narrow, wide, &four, h, JOINS);
@@ -141,10 +129,8 @@ fn peel_all(wide: &mut [u64], narrow: &mut [u32], g: Graph, top: usize) -> usize
         → (t : ℕ) × StandsFor (positions_of g.segment g.count) g.cells hs (attempt (positions_of g.segment g.count) g.cells hs) wide.new narrow.new t result }
 {
     let mut at = Progress { top, peeled: 0 };
-    let mut turn = 0;
-    while turn < g.cells {
+    for _turn in 0..g.cells {
         at = step(wide, narrow, g, at);
-        turn += 1;
     }
     at.peeled
 }
@@ -156,9 +142,7 @@ fn fill(cells: &mut [u8], wide: &[u64], narrow: &[u32], g: Graph, n: usize)
     ensures { cells.new ≡ fill (positions_of g.segment g.count) (peels_in g.cells n wide.now narrow.now) cells.old }
 {
     let c = g.cells;
-    let mut i = n;
-    while 0 < i {
-        i -= 1;
+    for i in (0..n).rev() {
         let h = wide[c + i];
         let p = narrow[c + c + i] as usize;
         let x = fuse::xor_cells(cells, g.segment, g.count, h);
@@ -172,8 +156,8 @@ fn peel_hashes(hashes: &[u64], wide: &mut [u64], narrow: &mut [u32], g: Graph) -
     ensures { (t : ℕ) × StandsFor (positions_of g.segment g.count) g.cells (mixed g.seed hashes.now) (attempt (positions_of g.segment g.count) g.cells (mixed g.seed hashes.now)) wide.new narrow.new t result }
 {
     let c = g.cells;
-    part::clear_u64(&mut wide[..c]);
-    part::clear_u32(&mut narrow[..c]);
+    wide[..c].fill(0);
+    narrow[..c].fill(0);
     load(hashes, wide, narrow, g);
     let top = queue_ones(narrow, c);
     peel_all(wide, narrow, g, top)
@@ -194,7 +178,7 @@ pub fn attempt(
     if n < hashes.len() {
         return false;
     }
-    part::fill(cells, 0);
+    cells.fill(0);
     fill(cells, wide, narrow, g, n);
     true
 }

@@ -1,5 +1,6 @@
 -- What locating, opening and getting answer, by number and values: 14 exactly where each meets damage, 0 exactly where it leads to its
 -- values, else 1; and what is not located or not opened is the answer. Assumes nothing.
+use Rattle.std.specs.Prelude.{None, Some}
 use Prim.Native.Nat.{ℕ, zero, suc, ◌+◌, ◌<◌, ◌≤◌}
 use native.Mathlib.Omega.{arith}
 use mathlib.Core.Path.{◌≡◌, refl, sym, ap, ◌∙◌}
@@ -10,12 +11,11 @@ use lib.Dec.{ltb, eqb}
 use lib.ListN.{length}
 use borrow.Author.Tests.{ltb-true, ltb-false, eqb-true, eqb-false, lt-ltb, le-ltb, eq-eqb}
 use Rattle.words.specs.Part.{same_as}
+use Rattle.numbers.specs.declared.Refusal.TheVariants as refusal
 use Rattle.mixing.specs.Mixing.{hash_of, fingerprint_of}
 use Rattle.layout.specs.Layout.{seed_in, keys_in, arena_in, header_refusal, pilot_of, direct_past, slot_place, record_offset, fingerprint_low}
-use Rattle.records.specs.declared.cursor.HeadRead.TheVariants as head
-use Rattle.records.specs.declared.Limit.{Limit}
+use Rattle.records.specs.Limits.{Limit}
 use Rattle.records.specs.declared.Record.{Record}
-use Rattle.records.specs.declared.VersionRead.TheVariants.{At, Unread}
 use Rattle.records.specs.declared.Within.{Within}
 use Rattle.records.specs.declared.Within.TheVariants as within
 use Rattle.records.specs.Model.{within as holds, kind_byte}
@@ -157,7 +157,7 @@ module _ (body key : List ℕ) where
         whole false q h = empty refl refl
 
         go : (a b : Bool) → ltb (length body) (p + 8) ≡ a → ltb (length body) (first_version body p) ≡ b
-            → RecordOpensTo (open_head body p key (cond a head.Outside (cond b head.Outside (head.At (head_of body p)))))
+            → RecordOpensTo (open_head body p key (cond a None (cond b None (Some (head_of body p)))))
         go true b qa qb = damaged refl (header_outside (ltb-true _ _ qa))
         go false true qa qb = damaged refl (key_outside (ltb-false _ _ qa) (ltb-true _ _ qb))
         go false false qa qb = whole (same_as (key_at body p) key) refl (ltb-false _ _ qb)
@@ -287,7 +287,7 @@ first_damaged body limit p (suc k) e = go (ltb (length body) (p + 21)) (bad_kind
 
     go : (a b : Bool) → ltb (length body) (p + 21) ≡ a → bad_kind (kind_at body p) ≡ b
         → (first_within body limit (p + 21) k ≡ within.Damaged → VersionDamaged body limit (p + 21) k)
-        → within_or limit (cond a Unread (cond b Unread (At (record_at body p)))) (first_within body limit (p + 21) k) ≡ within.Damaged → VersionDamaged body limit p (suc k)
+        → within_or limit (cond a None (cond b None (Some (record_at body p)))) (first_within body limit (p + 21) k) ≡ within.Damaged → VersionDamaged body limit p (suc k)
     go true b qa qb rest f = outside (ltb-true _ _ qa)
     go false true qa qb rest f = bad_kind_is (ltb-false _ _ qa) qb
     go false false qa qb rest f = behind (holds limit (sequence_at body p)) (ltb-false _ _ qa) qb refl rest f
@@ -315,7 +315,7 @@ module _ (body : List ℕ) (size : ℕ) (key : List ℕ) (limit : Limit) where
   unfolding get_of answer_of
   gets = go (first_for body (open_of body key) limit) refl
     where
-      inside : (r : Record) → first_for body (open_of body key) limit ≡ within.Found r → (b : Bool) → ltb size (r.offset + r.length) ≡ b → GetsTo (cond b (Refused 14) (Found r))
+      inside : (r : Record) → first_for body (open_of body key) limit ≡ within.Found r → (b : Bool) → ltb size (r.offset + r.length) ≡ b → GetsTo (cond b (Refused refusal.Damage) (Found r))
       inside r e true q = damaged refl (value_outside r e (ltb-true _ _ q))
       inside r e false q = valued refl (r, refl)
 
@@ -324,17 +324,17 @@ module _ (body : List ℕ) (size : ℕ) (key : List ℕ) (limit : Limit) where
       go within.Nothing e = empty refl refl
       go within.Damaged e = damaged refl (open_damaged (opens body key) e)
 
-  unopened : OpeningDamaged body key → get_of body size key limit ≡ Refused 14
+  unopened : OpeningDamaged body key → get_of body size key limit ≡ Refused refusal.Damage
   unfolding get_of first_for answer_of
   unopened d = rw (damage_opened body key d)
 
-  version_refused : (p : ℕ) → Opens body key p → VersionDamaged body limit (first_version body p) (version_count body p) → get_of body size key limit ≡ Refused 14
+  version_refused : (p : ℕ) → Opens body key p → VersionDamaged body limit (first_version body p) (version_count body p) → get_of body size key limit ≡ Refused refusal.Damage
   unfolding get_of first_for answer_of
   version_refused p o d =
       ap (λ (x : Opened). answer_from body size x limit) (opens_at body key p o)
       ∙ ap (answer_of size) (damaged_first body limit (first_version body p) (version_count body p) d)
 
-  pub damage_gets : DamageMet body size key limit → get_of body size key limit ≡ Refused 14
+  pub damage_gets : DamageMet body size key limit → get_of body size key limit ≡ Refused refusal.Damage
   unfolding get_of
   damage_gets (opening_damaged d) = unopened d
   damage_gets (version_damaged p o v) = version_refused p o v

@@ -1,5 +1,6 @@
 -- What each test that get makes says of its answer, over the code's own values; a found record lies inside the data; none as a limit is
 -- the greatest sequence there is. Assumes nothing.
+use Rattle.std.specs.Prelude.{None, Option, Some}
 use Prim.Native.Nat.{ℕ, ◌+◌, ◌-◌, ◌<◌, ◌≤◌}
 use native.Mathlib.Nat.{add-sub_cancel_left}
 use native.Mathlib.Omega.{arith}
@@ -12,16 +13,16 @@ use borrow.Author.Tests.{ltb-false, lt-ltb, le-ltb, le-leb, lt-leb, eq-eqb, ne_e
 use Rattle.words.specs.Field.{le}
 use Rattle.words.specs.Field.{AllBytes}
 use Rattle.words.specs.Part.{same_as}
+use Rattle.numbers.specs.declared.Refusal.{Refusal}
+use Rattle.numbers.specs.declared.Refusal.TheVariants.{Damage}
 use Rattle.mixing.specs.Mixing.{hash_of, fingerprint_of}
 use Rattle.mixing.specs.Slots.{direct}
 use Rattle.layout.specs.Layout.{header_refusal, seed_in, keys_in, arena_in, pilot_of, direct_past, slot_of, slot_place}
-use Rattle.records.specs.declared.DataLength.TheVariants.{Of}
-use Rattle.records.specs.declared.Limit.{Limit}
-use Rattle.records.specs.declared.Limit.TheVariants.{None, UpTo}
+use Rattle.records.specs.Limits.{Limit}
 use Rattle.records.specs.declared.Record.{Record}
+use Rattle.records.specs.declared.cursor.Head.{Head}
 use Rattle.records.specs.declared.Within.{Within}
 use Rattle.records.specs.declared.Within.TheVariants as within
-use Rattle.records.specs.declared.cursor.HeadRead.{HeadRead}
 use Rattle.records.specs.Cursor.{head_at}
 use Rattle.records.specs.Model.{limit_of}
 use Rattle.records.specs.Places.{key_at, first_version, version_count}
@@ -77,7 +78,7 @@ module _ (body key : List ℕ) (r : ℕ) (isr : r ≡ header_refusal body) where
 
 module _ (body key : List ℕ) (p : ℕ) where
   -- by its head
-  pub record_head : (h : HeadRead) → head_at body p ≡ h → open_record_of body p key ≡ open_head body p key h
+  pub record_head : (h : (Option Head)) → head_at body p ≡ h → open_record_of body p key ≡ open_head body p key h
   unfolding open_record_of
   record_head h e = ap (open_head body p key) e
 
@@ -92,8 +93,8 @@ open_is body key l e = rw (← e)
 
 -- ---- the answer
 
-module _ (size : ℕ) (w : Within) (r : Record) (isw : w ≡ within.Found r) (t : Bool) (ist : t ≡ past_data (Of size) r.offset r.length) where
-  pub answer_past : t ≡ true → answer_of size w ≡ Refused 14
+module _ (size : ℕ) (w : Within) (r : Record) (isw : w ≡ within.Found r) (t : Bool) (ist : t ≡ past_data (Some size) r.offset r.length) where
+  pub answer_past : t ≡ true → answer_of size w ≡ Refused Damage
   unfolding answer_of
   answer_past e = rw (isw, ← ist, e)
 
@@ -105,7 +106,7 @@ pub answer_nothing : (size : ℕ) (w : Within) → w ≡ within.Nothing → answ
 unfolding answer_of
 answer_nothing size w e = rw e
 
-pub answer_damaged : (size : ℕ) (w : Within) → w ≡ within.Damaged → answer_of size w ≡ Refused 14
+pub answer_damaged : (size : ℕ) (w : Within) → w ≡ within.Damaged → answer_of size w ≡ Refused Damage
 unfolding answer_of
 answer_damaged size w e = rw e
 
@@ -118,20 +119,20 @@ module _ (body : List ℕ) (size : ℕ) (limit : Limit) (o : Opened) where
   unfolding first_for answer_of
   from_nothing e = rw e
 
-  pub from_damaged : o ≡ opened.Damaged → answer_from body size o limit ≡ Refused 14
+  pub from_damaged : o ≡ opened.Damaged → answer_from body size o limit ≡ Refused Damage
   unfolding first_for answer_of
   from_damaged e = rw e
 
 -- ---- no limit
 
-opened_unlimited : (body : List ℕ) (o : Opened) → AllBytes body → first_for body o None ≡ first_for body o (UpTo (limit_of None))
+opened_unlimited : (body : List ℕ) (o : Opened) → AllBytes body → first_for body o None ≡ first_for body o (Some (limit_of None))
 unfolding first_for
 opened_unlimited body (opened.Open v) b = first_limit body None v.first v.count b
 opened_unlimited body opened.Nothing b = refl
 opened_unlimited body opened.Damaged b = refl
 
 -- THEOREM: none as a limit is the greatest sequence there is, on all bytes
-pub none_is_greatest : (body : List ℕ) (size : ℕ) (key : List ℕ) → AllBytes body → get_of body size key None ≡ get_of body size key (UpTo (limit_of None))
+pub none_is_greatest : (body : List ℕ) (size : ℕ) (key : List ℕ) → AllBytes body → get_of body size key None ≡ get_of body size key (Some (limit_of None))
 unfolding get_of
 none_is_greatest body size key b = ap (answer_of size) (opened_unlimited body (open_of body key) b)
 
@@ -142,7 +143,7 @@ answer_fits : (size : ℕ) (w : Within) (r : Record) → answer_of size w ≡ Fo
 unfolding answer_of
 answer_fits size (within.Found s) r e = go (ltb size (s.offset + s.length)) refl e
   where
-    go : (t : Bool) → ltb size (s.offset + s.length) ≡ t → cond t (Refused 14) (Found s) ≡ Found r → r.offset + r.length ≤ size
+    go : (t : Bool) → ltb size (s.offset + s.length) ≡ t → cond t (Refused Damage) (Found s) ≡ Found r → r.offset + r.length ≤ size
     go true q f = absurd (let z : ◌≡◌ {A = ℕ} 0 1 = cc in omega arith)
     go false q f = let d : s ≡ r = cc in rw (← d) (ltb-false size (s.offset + s.length) q)
 answer_fits size within.Nothing r e = absurd (let z : ◌≡◌ {A = ℕ} 0 1 = cc in omega arith)
@@ -171,9 +172,9 @@ module _ (body bytes key : List ℕ) (limit : Limit) (a : Answer) (isa : a ≡ g
     start = let s : start_of (get_of body (length bytes) key limit) ≡ 0 = ap start_of (sym isa ∙ e) in omega arith;
   }
 
-  pub value_refused : (n : ℕ) → a ≡ Refused n → place.1 ≡ lent.1 → ValuePost body bytes key limit lent [] place
+  pub value_refused : (r : Refusal) → a ≡ Refused r → place.1 ≡ lent.1 → ValuePost body bytes key limit lent [] place
   unfolding value_of part_of start_of
-  value_refused n e at = record {
+  value_refused r e at = record {
     value = rw (← isa, e);
     block = block;
     start = let s : start_of (get_of body (length bytes) key limit) ≡ 0 = ap start_of (sym isa ∙ e) in omega arith;

@@ -13,9 +13,9 @@ use Rattle.laws.specs.Each.{Each}
 use Rattle.laws.specs.Each.Each.{each_more}
 use Rattle.words.specs.Part.{same_as}
 use Rattle.words.proofs.Ordered.{same_equal}
-use Rattle.records.specs.declared.DataLength.{DataLength}
+use Rattle.records.specs.Limits.{DataLength}
 use Rattle.records.specs.declared.Record.{Record}
-use Rattle.records.specs.declared.Limit.{Limit}
+use Rattle.records.specs.Limits.{Limit}
 use Rattle.records.specs.Model.{Entry, within, records_of, better, greatest, lookup, Falls, Rises}
 use Rattle.records.specs.Model.Falls.{falls_none, falls_more}
 use Rattle.records.specs.Tables.{EntryRules, TableRules}

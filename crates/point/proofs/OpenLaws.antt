@@ -1,5 +1,6 @@
 -- On an accepted body, the opening of a key finds its versions, or nothing where it is no key of the body; and the records of a key in the
 -- body's table. Assumes nothing.
+use Rattle.std.specs.Prelude.{Ok}
 use Prim.Native.Nat.{ℕ, zero, suc, ◌+◌, ◌<◌}
 use native.Mathlib.Nat.{not-suc-le-zero}
 use native.Mathlib.Omega.{arith}
@@ -19,7 +20,6 @@ use Rattle.layout.specs.Layout.{seed_in, keys_in, arena_in, slot_place, record_o
 use Rattle.layout.proofs.HeaderLaws.{headed, slot_inside}
 use Rattle.records.specs.Model.{records_of}
 use Rattle.records.specs.Places.{key_at, first_version, version_count, next_entry, versions_from, entry_at, entries_from, entry_place}
-use Rattle.point.specs.declared.Validated.TheVariants.{Accepted}
 use Rattle.point.specs.declared.Versions.{Versions}
 use Rattle.point.specs.declared.Located.TheVariants as located
 use Rattle.point.specs.declared.Opened.TheVariants as opened
@@ -34,7 +34,7 @@ use Rattle.point.proofs.SlotLaws.{key_entered, key_belongs, hash_near, hash_slot
 abbrev pub versions_of : List ℕ → ℕ → Versions
 versions_of body i = record { first = first_version body (key_place body i); count = version_count body (key_place body i) }
 
-module _ (body : List ℕ) (size : ℕ) (ok : validate_of body size ≡ Accepted) (all : AllBytes body) (key : List ℕ) where
+module _ (body : List ℕ) (size : ℕ) (ok : validate_of body size ≡ Ok (record {})) (all : AllBytes body) (key : List ℕ) where
   -- the key's slot, which belongs to some key
   owner : Hit (keys_in body) (λ i. key_slot body (body_key body i)) (key_slot body key)
   owner = slot_hit body size ok (key_slot body key) (hash_slot body size ok (hash_of (seed_in body) key))
@@ -127,7 +127,7 @@ pub record KeyMissing (body key : List ℕ) : Type 0 where
   pub opening : open_of body key ≡ opened.Nothing
   pub records : records_of (table_of body) key ≡ []
 
-module _ (body : List ℕ) (size : ℕ) (ok : validate_of body size ≡ Accepted) (all : AllBytes body) (key : List ℕ) where
+module _ (body : List ℕ) (size : ℕ) (ok : validate_of body size ≡ Ok (record {})) (all : AllBytes body) (key : List ℕ) where
   opening_found : (t : Hit (keys_in body) (λ i. key_slot body (body_key body i)) (key_slot body key)) → same_as (body_key body t.index) key ≡ true → KeyOpened body key
   unfolding table_of key_place
   opening_found t e =

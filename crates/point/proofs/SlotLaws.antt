@@ -1,5 +1,6 @@
 -- On an accepted body: the arena is the bytes of one table, and each slot belongs to exactly one key, since n keys stand in n slots.
 -- Assumes nothing.
+use Rattle.std.specs.Prelude.{Some, Ok}
 use Prim.Native.Nat.{ℕ, ◌+◌, ◌-◌, ◌<◌, ◌≤◌}
 use native.Mathlib.Omega.{arith}
 use mathlib.Core.Path.{◌≡◌, refl, sym, ap, ◌∙◌}
@@ -14,7 +15,6 @@ use Rattle.laws.proofs.PigeonholeLaws.{onto}
 use Rattle.words.specs.Field.{AllBytes}
 use Rattle.layout.specs.Layout.{keys_in, arena_in, pilot_of, direct_past, slot_of, slot_place, record_offset}
 use Rattle.layout.proofs.HeaderLaws.{headed, slot_low}
-use Rattle.records.specs.declared.DataLength.TheVariants.{Of}
 use Rattle.records.specs.declared.Record.{Record}
 use Rattle.records.specs.Model.{Entry, table_bytes, Rises}
 use Rattle.records.specs.Places.{entries_from, entry_place}
@@ -25,7 +25,6 @@ use Rattle.records.proofs.ReadLaws.{passed_bytes, passed_rules, passed_rise}
 use Rattle.records.proofs.StandsLaws.{passed_stand}
 use Rattle.records.proofs.TableLaws.{table_fits}
 use Rattle.records.proofs.WriteLaws.{table_unique}
-use Rattle.point.specs.declared.Validated.TheVariants.{Accepted}
 use Rattle.point.specs.Validate.{slot_refusal, validate_of}
 use Rattle.point.specs.Table.{table_of, key_place, body_key, key_slot, HoldsTable, Belongs, OneBelow}
 use Rattle.point.specs.Inner.Stands.{TableStands}
@@ -33,22 +32,22 @@ use Rattle.point.proofs.ValidateLaws.{validation_passed, checked_near, slotted}
 
 -- ---- the table
 
-record_in : (size : ℕ) (r : Record) → RecordRules (Of size) r → InData size r
+record_in : (size : ℕ) (r : Record) → RecordRules (Some size) r → InData size r
 record_in size r k = ltb-false size (r.offset + r.length) k.inside
 
-entry_in : (size : ℕ) (e : Entry) → EntryRules (Of size) e → EntryInData size e
+entry_in : (size : ℕ) (e : Entry) → EntryRules (Some size) e → EntryInData size e
 entry_in size e k = each_map (record_in size) e.versions k.versions
 
-module _ (body : List ℕ) (size : ℕ) (ok : validate_of body size ≡ Accepted) where
-  walked : ((walk_from (slot_refusal body) body (Of size) (arena_in body) (arena_in body) (keys_in body)).keys ≡ keys_in body) × ((walk_from (slot_refusal body) body (Of size) (arena_in body) (arena_in body) (keys_in body)).end ≡ length body)
-  walked = walk_whole (slot_refusal body) body (Of size) (arena_in body) (arena_in body) (keys_in body) (validation_passed body size ok).arena
+module _ (body : List ℕ) (size : ℕ) (ok : validate_of body size ≡ Ok (record {})) where
+  walked : ((walk_from (slot_refusal body) body (Some size) (arena_in body) (arena_in body) (keys_in body)).keys ≡ keys_in body) × ((walk_from (slot_refusal body) body (Some size) (arena_in body) (arena_in body) (keys_in body)).end ≡ length body)
+  walked = walk_whole (slot_refusal body) body (Some size) (arena_in body) (arena_in body) (keys_in body) (validation_passed body size ok).arena
 
   -- every key of the body passed
-  pub keys_passed : Passed (slot_refusal body) body (Of size) (arena_in body) (arena_in body) (keys_in body)
-  keys_passed = rw walked.0 at (walk_passed (slot_refusal body) body (Of size) (arena_in body) (arena_in body) (keys_in body))
+  pub keys_passed : Passed (slot_refusal body) body (Some size) (arena_in body) (arena_in body) (keys_in body)
+  keys_passed = rw walked.0 at (walk_passed (slot_refusal body) body (Some size) (arena_in body) (arena_in body) (keys_in body))
 
   keys_end : entry_place body (arena_in body) (keys_in body) ≡ length body
-  keys_end = sym (ap (entry_place body (arena_in body)) walked.0) ∙ sym (walk_ends (slot_refusal body) body (Of size) (arena_in body) (arena_in body) (keys_in body)) ∙ walked.1
+  keys_end = sym (ap (entry_place body (arena_in body)) walked.0) ∙ sym (walk_ends (slot_refusal body) body (Some size) (arena_in body) (arena_in body) (keys_in body)) ∙ walked.1
 
   -- its keys rise
   pub accepted_rises : Rises (table_of body)
@@ -64,7 +63,7 @@ module _ (body : List ℕ) (size : ℕ) (ok : validate_of body size ≡ Accepted
   unfolding table_of
   holds_table all =
       let d = headed body (validation_passed body size ok).checked.header in
-      let b = passed_bytes body (Of size) all (slot_refusal body) (arena_in body) (arena_in body) (keys_in body) (omega arith) keys_passed in
+      let b = passed_bytes body (Some size) all (slot_refusal body) (arena_in body) (arena_in body) (keys_in body) (omega arith) keys_passed in
       let l : length (drop (arena_in body) body) ≡ entry_place body (arena_in body) (keys_in body) - arena_in body = simp (length-drop, keys_end) in
       let whole : drop (arena_in body) body ≡ table_bytes (entries_from body (arena_in body) (keys_in body)) =
       sym (take-length (drop (arena_in body) body))
@@ -74,14 +73,14 @@ module _ (body : List ℕ) (size : ℕ) (ok : validate_of body size ≡ Accepted
       record {
         count = entries_count body (arena_in body) (keys_in body);
         bytes = whole;
-        only = λ s f e. table_unique s _ f (table_fits (Of size) _ rules) (sym e ∙ whole);
+        only = λ s f e. table_unique s _ f (table_fits (Some size) _ rules) (sym e ∙ whole);
         rules = rules;
         inside = each_map (entry_in size) _ rules.entries;
       }
 
   -- ---- the slots
 
-  pub key_entered : (i : ℕ) → i < keys_in body → EnteredAt (slot_refusal body) body (Of size) (key_place body i)
+  pub key_entered : (i : ℕ) → i < keys_in body → EnteredAt (slot_refusal body) body (Some size) (key_place body i)
   unfolding key_place
   key_entered i l = passed_at i l keys_passed
 

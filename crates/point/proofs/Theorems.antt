@@ -1,5 +1,6 @@
 -- What is promised of reading: on a body that validation accepts, get is the lookup in its table and value that record's part of the data;
 -- a body with right header, pilots and slots over a table that keeps the rules is accepted; each call's result is fixed. Assumes nothing.
+use Rattle.std.specs.Prelude.{Some, Ok}
 use Prim.Native.Nat.{ℕ, ◌+◌, ◌<◌}
 use native.Mathlib.Omega.{arith}
 use mathlib.Core.Path.{◌≡◌, refl, sym, ap, ◌∙◌}
@@ -9,13 +10,13 @@ use mathlib.Core.Logic.{⊎_elim}
 use lib.ListN.{length, take, drop, take-append-drop}
 use lib.Seq.{length-take-le}
 use Rattle.words.specs.Field.{AllBytes}
+use Rattle.numbers.specs.declared.Refusal.{Refusal}
 use Rattle.mixing.specs.Mixing.{hash_of}
 use Rattle.layout.specs.Layout.{header_refusal, seed_in, keys_in, buckets_in, arena_in}
 use Rattle.layout.proofs.HeaderLaws.{headed}
-use Rattle.records.specs.declared.DataLength.TheVariants.{Of}
-use Rattle.records.specs.declared.Limit.{Limit}
+use Rattle.records.specs.Limits.{Limit}
 use Rattle.records.specs.declared.Record.{Record}
-use Rattle.records.specs.declared.Walked.{Walked}
+use Rattle.records.specs.Walk.{Walk}
 use Rattle.records.specs.Model.{Entry, table_bytes, records_of, greatest, lookup}
 use Rattle.records.specs.Places.{versions_from, entry_place}
 use Rattle.records.specs.Tables.{RecordRules, TableRules}
@@ -25,7 +26,6 @@ use Rattle.records.proofs.ModelLaws.{greatest_has}
 use Rattle.records.proofs.ReadLaws.{versions_rules}
 use Rattle.records.proofs.WithinLaws.{search_greatest}
 use Rattle.records.proofs.Theorems.{walk_last}
-use Rattle.point.specs.declared.Validated.TheVariants.{Accepted}
 use Rattle.point.specs.declared.Answer.{Answer}
 use Rattle.point.specs.declared.Answer.TheVariants.{Found, Nothing, Refused}
 use Rattle.point.specs.Validate.{pilots_refusal, slot_refusal, arena_refusal, validate_of}
@@ -41,22 +41,22 @@ use Rattle.point.proofs.OpenLaws.{versions_of, KeyOpened, KeyMissing, opening_is
 -- ---- get
 
 -- a record inside the data is answered
-answer_inside : (size : ℕ) (o : Option Record) → ((r : Record) → o ≡ some r → RecordRules (Of size) r) → answer_of size (found_of o) ≡ answer_to o
+answer_inside : (size : ℕ) (o : Option Record) → ((r : Record) → o ≡ some r → RecordRules (Some size) r) → answer_of size (found_of o) ≡ answer_to o
 unfolding answer_of
 answer_inside size none h = refl
 answer_inside size (some r) h = rw (h r refl).inside
 
-module _ (body : List ℕ) (size : ℕ) (ok : validate_of body size ≡ Accepted) (all : AllBytes body) (key : List ℕ) (limit : Limit) where
+module _ (body : List ℕ) (size : ℕ) (ok : validate_of body size ≡ Ok (record {})) (all : AllBytes body) (key : List ℕ) (limit : Limit) where
   get_opened : KeyOpened body key → get_of body size key limit ≡ answer_to (lookup (table_of body) key limit)
   unfolding get_of lookup
   get_opened o =
       let v = versions_of body o.index in
       let e = key_entered body size ok o.index o.low in
-      let s = search_greatest body limit (Of size) v.count v.first v.first e.rules.versions in
-      let u = versions_rules body (Of size) all v.count v.first v.first e.rules.versions in
+      let s = search_greatest body limit (Some size) v.count v.first v.first e.rules.versions in
+      let u = versions_rules body (Some size) all v.count v.first v.first e.rules.versions in
       from_open body size limit _ v _ o.opening refl
       ∙ ap (answer_of size) s
-      ∙ answer_inside size (greatest limit (versions_from body v.first v.count)) (λ r. greatest_has {P = RecordRules (Of size)} limit (versions_from body v.first v.count) r u)
+      ∙ answer_inside size (greatest limit (versions_from body v.first v.count)) (λ r. greatest_has {P = RecordRules (Some size)} limit (versions_from body v.first v.count) r u)
       ∙ ap (λ (rs : List Record). answer_to (greatest limit rs)) (sym o.records)
 
   get_missing : KeyMissing body key → get_of body size key limit ≡ answer_to (lookup (table_of body) key limit)
@@ -76,7 +76,7 @@ module _ (body : List ℕ) (size : ℕ) (ok : validate_of body size ≡ Accepted
       go (some s) q f = let d : s ≡ r = cc in lookup_some (table_of body) key limit r (q ∙ ap some d)
 
   pub get_finds : (r : Record) → Newest limit (records_of (table_of body) key) r → get_of body size key limit ≡ Found r
-  get_finds r n = get_is_lookup ∙ ap answer_to (lookup_finds (table_of body) key limit (Of size) r (holds_table body size ok all).rules n)
+  get_finds r n = get_is_lookup ∙ ap answer_to (lookup_finds (table_of body) key limit (Some size) r (holds_table body size ok all).rules n)
 
   -- THEOREM: get answers nothing exactly where none of the key's records is within the limit
   pub get_nothing_found : get_of body size key limit ≡ Nothing → NoneWithin limit (records_of (table_of body) key)
@@ -90,16 +90,16 @@ module _ (body : List ℕ) (size : ℕ) (ok : validate_of body size ≡ Accepted
   get_misses n = get_is_lookup ∙ ap answer_to (lookup_misses (table_of body) key limit n)
 
   -- THEOREM: get never refuses an accepted body
-  pub get_never_refuses : (n : ℕ) → get_of body size key limit ≡ Refused n → ⊥
-  get_never_refuses n e = go (lookup (table_of body) key limit) (sym get_is_lookup ∙ e)
+  pub get_never_refuses : (r : Refusal) → get_of body size key limit ≡ Refused r → ⊥
+  get_never_refuses r e = go (lookup (table_of body) key limit) (sym get_is_lookup ∙ e)
     where
-      go : (o : Option Record) → answer_to o ≡ Refused n → ⊥
+      go : (o : Option Record) → answer_to o ≡ Refused r → ⊥
       go none f = let z : ◌≡◌ {A = ℕ} 0 1 = cc in omega arith
       go (some s) f = let z : ◌≡◌ {A = ℕ} 0 1 = cc in omega arith
 
 -- THEOREM: value hands back that record's part of the lent data, at its place there
 pub value_is_part : {body bytes key : List ℕ} {limit : Limit} {lent : ℕ × ℕ} {part : List ℕ} {place : ℕ × ℕ} → ValuePost body bytes key limit lent part place
-    → validate_of body (length bytes) ≡ Accepted → AllBytes body
+    → validate_of body (length bytes) ≡ Ok (record {}) → AllBytes body
     → (part ≡ part_of bytes (answer_to (lookup (table_of body) key limit))) × (place.0 ≡ lent.0) × (place.1 ≡ lent.1 + start_of (answer_to (lookup (table_of body) key limit)))
 unfolding value_of
 value_is_part {body} {bytes} {key} {limit} {lent} P ok all =
@@ -117,8 +117,8 @@ slot_passes body i b =
 
 -- THEOREM: a body that passes 20 to 22, whose arena is the bytes of a table that keeps the rules, and whose keys have their slots, is accepted
 pub accepts : (body : List ℕ) (size : ℕ) (t : List Entry) → header_refusal body ≡ 0 → pilots_refusal body (keys_in body) 0 (buckets_in body) ≡ 0
-    → length t ≡ keys_in body → drop (arena_in body) body ≡ table_bytes t → TableRules (Of size) t
-    → ((i : ℕ) → i < keys_in body → Belongs body (key_slot body (body_key body i)) i) → validate_of body size ≡ Accepted
+    → length t ≡ keys_in body → drop (arena_in body) body ≡ table_bytes t → TableRules (Some size) t
+    → ((i : ℕ) → i < keys_in body → Belongs body (key_slot body (body_key body i)) i) → validate_of body size ≡ Ok (record {})
 unfolding key_place
 accepts body size t h pl n e u slots =
     let d = headed body h in
@@ -127,13 +127,13 @@ accepts body size t h pl n e u slots =
     let at : length xs ≡ arena_in body = length-take-le (arena_in body) body (omega arith) in
     let s : (i : ℕ) → i < length t → slot_refusal body (entry_place body (length xs) i) ≡ 0 =
     λ i l. ap (λ (a : ℕ). slot_refusal body (entry_place body a i)) at ∙ slot_passes body i (slots i (omega arith)) in
-    let w : walk_from (slot_refusal body) (xs ++ table_bytes t) (Of size) (length xs) (length xs) (length t) ≡ record { keys = length t; end = length (xs ++ table_bytes t); rule = 0 } =
-    walk_last (Of size) t u (slot_refusal body) xs (λ i l. ap (λ (z : List ℕ). slot_refusal body (entry_place z (length xs) i)) (sym q) ∙ s i l) in
+    let w : walk_from (slot_refusal body) (xs ++ table_bytes t) (Some size) (length xs) (length xs) (length t) ≡ record { keys = length t; end = length (xs ++ table_bytes t); rule = 0 } =
+    walk_last (Some size) t u (slot_refusal body) xs (λ i l. ap (λ (z : List ℕ). slot_refusal body (entry_place z (length xs) i)) (sym q) ∙ s i l) in
     let a : arena_refusal body size ≡ 0 =
-    ap (λ (m : ℕ). (walk_from (slot_refusal body) body (Of size) (arena_in body) (arena_in body) m).rule) (sym n)
-    ∙ ap (λ (m : ℕ). (walk_from (slot_refusal body) body (Of size) m m (length t)).rule) (sym at)
-    ∙ ap (λ (z : List ℕ). (walk_from (slot_refusal body) z (Of size) (length xs) (length xs) (length t)).rule) q
-    ∙ ap (λ (x : Walked). x.rule) w in
+    ap (λ (m : ℕ). (walk_from (slot_refusal body) body (Some size) (arena_in body) (arena_in body) m).rule) (sym n)
+    ∙ ap (λ (m : ℕ). (walk_from (slot_refusal body) body (Some size) m m (length t)).rule) (sym at)
+    ∙ ap (λ (z : List ℕ). (walk_from (slot_refusal body) z (Some size) (length xs) (length xs) (length t)).rule) q
+    ∙ ap (λ (x : Walk). x.rule) w in
     accepted body size (record { checked = record { header = h; pilots = pl }; arena = a })
 
 -- the part that value hands back, its bytes and its place, is fixed

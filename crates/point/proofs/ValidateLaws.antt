@@ -1,4 +1,5 @@
 -- The laws of validation, a test at a time: pilots and slots. Assumes nothing.
+use Rattle.std.specs.Prelude.{Some, Ok}
 use Prim.Native.Nat.{ℕ, zero, suc, ◌+◌, ◌-◌, ◌<◌, ◌≤◌}
 use native.Mathlib.Nat.{eq-or-lt_of_le}
 use native.Mathlib.Numerals.{add-one}
@@ -9,17 +10,16 @@ use mathlib.Core.Bool.{true, false, not}
 use mathlib.Core.Logic.{⊎_elim}
 use lib.Dec.{eqb}
 use borrow.Author.Tests.{eqb-true, not-false, eq-eqb, ne_eqb}
-use Rattle.laws.proofs.RefusalLaws.{or_else_stop, or_else_zero}
+use Rattle.laws.proofs.RefusalLaws.{or_else_zero}
+use Rattle.numbers.specs.Numbers.{answered}
 use Rattle.words.specs.Field.{le}
 use Rattle.mixing.specs.Mixing.{hash_of, fingerprint_of, bucket_of, bucket_of_lt}
 use Rattle.layout.specs.Layout.{header_refusal, seed_in, keys_in, buckets_in, arena_in, pilot_at, pilot_of, direct_past, slot_of, slot_place, record_offset, fingerprint_wide}
 use Rattle.layout.proofs.HeaderLaws.{passes, headed}
-use Rattle.records.specs.declared.DataLength.TheVariants.{Of}
 use Rattle.records.specs.Places.{key_at, next_entry}
 use Rattle.records.specs.Walk.{walk_from}
 use Rattle.records.proofs.RuleLaws.{Entered}
-use Rattle.point.specs.declared.Validated.TheVariants.{Accepted, Refused}
-use Rattle.point.specs.Validate.{pilots_refusal, slot_test, slot_refusal, arena_refusal, validation_refusal, verdict, validate_of, Checked}
+use Rattle.point.specs.Validate.{pilots_refusal, slot_test, slot_refusal, arena_refusal, validation_refusal, validate_of, Checked}
 use Rattle.point.specs.Inner.Walking.{Stepping}
 
 -- ---- 22, a pilot at a time
@@ -94,57 +94,39 @@ slot_of_key body key p seed h r ek es eh er = er ∙ ap (λ (g : ℕ). slot_test
 -- ---- the arena
 
 pub arena_start_lem : (body : List ℕ) (size a n : ℕ) → a ≡ arena_in body → n ≡ keys_in body
-    → (walk_from (slot_refusal body) body (Of size) a a n).rule ≡ arena_refusal body size
+    → (walk_from (slot_refusal body) body (Some size) a a n).rule ≡ arena_refusal body size
 arena_start_lem body size a n ea en = rw (ea, en)
 
 -- the walk begins, and goes on past an entry that passed
 pub step_first : (body : List ℕ) (a : ℕ) → Checked body → a ≡ arena_in body → Stepping body a a
 step_first body a c e =
     let d = headed body c.header in
-    record { checked = c; here = omega arith; walking = record { here = omega arith; before = λ n. absurd (n refl) } }
+    record { here = omega arith; walking = record { here = omega arith; before = λ n. absurd (n refl) } }
 
-pub step_next : (body : List ℕ) (size prev p q : ℕ) → Stepping body prev p → Entered (slot_refusal body) body (Of size) prev p → q ≡ next_entry body p → Stepping body p q
+pub step_next : (body : List ℕ) (size prev p q : ℕ) → Stepping body prev p → Entered (slot_refusal body) body (Some size) prev p → q ≡ next_entry body p → Stepping body p q
 step_next body size prev p q s e eq =
     let n = e.next in
     let h = s.here in
-    record { checked = s.checked; here = omega arith; walking = record { here = omega arith; before = λ z. e.key.whole } }
+    record { here = omega arith; walking = record { here = omega arith; before = λ z. e.key.whole } }
 
 -- ---- the whole
 
-module _ (body : List ℕ) (size r : ℕ) (isr : r ≡ header_refusal body) where
-  pub validation_header : (r ≡ 0 → ⊥) → validation_refusal body size ≡ r
-  unfolding validation_refusal
-  validation_header n = rw (← isr) (or_else_stop r _ n)
-
-  module _ (good : r ≡ 0) (q : ℕ) (isq : q ≡ pilots_refusal body (keys_in body) 0 (buckets_in body)) where
-    pub validation_pilots : (q ≡ 0 → ⊥) → validation_refusal body size ≡ q
-    unfolding validation_refusal
-    validation_pilots n = rw (← isr, good, ← isq) (or_else_stop q _ n)
-
-    pub validation_arena : q ≡ 0 → validation_refusal body size ≡ arena_refusal body size
-    unfolding validation_refusal
-    validation_arena e = rw (← isr, good, ← isq, e)
-
-pub verdict_refused : (r : ℕ) → (r ≡ 0 → ⊥) → verdict r ≡ Refused r
-verdict_refused zero n = absurd (n refl)
-verdict_refused (suc r) n = refl
-
-pub verdict_accepted : (r : ℕ) → verdict r ≡ Accepted → r ≡ 0
-verdict_accepted zero e = refl
-verdict_accepted (suc r) e = absurd (let z : ◌≡◌ {A = ℕ} 0 1 = cc in omega arith)
+answered_zero : (n : ℕ) → answered {A = Unit {0}} n (record {}) ≡ Ok (record {}) → n ≡ 0
+answered_zero zero e = refl
+answered_zero (suc n) e = absurd (let z : ◌≡◌ {A = ℕ} 0 1 = cc in omega arith)
 
 -- what an accepted body passed
 pub record ValidationPassed (body : List ℕ) (size : ℕ) : Type 0 where
   pub checked : Checked body
   pub arena : arena_refusal body size ≡ 0
 
-pub validation_passed : (body : List ℕ) (size : ℕ) → validate_of body size ≡ Accepted → ValidationPassed body size
+pub validation_passed : (body : List ℕ) (size : ℕ) → validate_of body size ≡ Ok (record {}) → ValidationPassed body size
 unfolding validate_of validation_refusal
 validation_passed body size e =
-    let s = or_else_zero (header_refusal body) _ (verdict_accepted _ e) in
+    let s = or_else_zero (header_refusal body) _ (answered_zero _ e) in
     let t = or_else_zero (pilots_refusal body (keys_in body) 0 (buckets_in body)) _ s.1 in
     record { checked = record { header = s.0; pilots = t.0 }; arena = t.1 }
 
-pub accepted : (body : List ℕ) (size : ℕ) → ValidationPassed body size → validate_of body size ≡ Accepted
+pub accepted : (body : List ℕ) (size : ℕ) → ValidationPassed body size → validate_of body size ≡ Ok (record {})
 unfolding validate_of validation_refusal
 accepted body size p = rw (p.checked.header, p.checked.pilots, p.arena)

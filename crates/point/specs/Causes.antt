@@ -1,12 +1,11 @@
 -- The exact cause of each number that validation refuses with (20 to 30), and of the 14 of get, of locating and of opening (document 01,
 -- "Validation" and "Get").
-use Rattle.std.specs.Prelude.{ℕ, suc, ◌+◌, ◌<◌, ◌≤◌, ◌≡◌, List, true, false, length}
+use Rattle.std.specs.Prelude.{ℕ, suc, ◌+◌, ◌<◌, ◌≤◌, ◌≡◌, List, true, false, length, Some}
 use Rattle.laws.specs.Refusals.{First, None}
 use Rattle.words.specs.Part.{same_as}
 use Rattle.mixing.specs.Mixing.{hash_of, fingerprint_of}
 use Rattle.layout.specs.Layout.{header_refusal, magic_causes, body_causes, seed_in, keys_in, buckets_in, arena_in, pilot_at, pilot_of, direct_past, slot_place, record_offset, fingerprint_low}
-use Rattle.records.specs.declared.DataLength.TheVariants.{Of}
-use Rattle.records.specs.declared.Limit.{Limit}
+use Rattle.records.specs.Limits.{Limit}
 use Rattle.records.specs.declared.Record.{Record}
 use Rattle.records.specs.declared.Within.TheVariants.{Found}
 use Rattle.records.specs.Model.{within}
@@ -23,7 +22,7 @@ pub data ValidationStops (body : List ℕ) (size r : ℕ) : Type 0 where
   magic_wrong : First r (magic_causes body) → ValidationStops body size r
   dimensions_wrong : None (magic_causes body) → First r (body_causes body) → ValidationStops body size r
   pilot_past : header_refusal body ≡ 0 → r ≡ 22 → (i : ℕ) → i < buckets_in body → direct_past (keys_in body) (pilot_at body i) ≡ true → ValidationStops body size r
-  arena_stops : Checked body → WalkStops (slot_refusal body) body (Of size) r (arena_in body) (arena_in body) (keys_in body) → ValidationStops body size r
+  arena_stops : Checked body → WalkStops (slot_refusal body) body (Some size) r (arena_in body) (arena_in body) (keys_in body) → ValidationStops body size r
 
 -- a key's slot leads to the place p: the header passes, the chosen pilot is no direct one at or past n, the low 16 fingerprint bits are equal
 pub record Leads (body key : List ℕ) (p : ℕ) : Type 0 where

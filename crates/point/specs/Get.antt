@@ -1,11 +1,12 @@
 -- Get in document 01's order (document 01, "Get"). Each `Damaged` here is a cause of 14, by its comment.
-use Rattle.std.specs.Prelude.{ℕ, ◌+◌, List, [], ◌∷◌, cond, ◌≡◌, ltb, eqb, length, take, drop}
+use Rattle.std.specs.Prelude.{ℕ, ◌+◌, List, [], ◌∷◌, cond, ◌≡◌, ltb, eqb, length, take, drop, None, Option, Some}
 use Rattle.words.specs.Part.{same_as}
+use Rattle.numbers.specs.declared.Refusal.TheVariants.{Damage}
+use Rattle.numbers.specs.Numbers.{number}
 use Rattle.mixing.specs.Mixing.{hash_of, fingerprint_of}
 use Rattle.layout.specs.Layout.{header_refusal, seed_in, keys_in, arena_in, pilot_of, direct_past, slot_of, slot_place, record_offset, fingerprint_low}
-use Rattle.records.specs.declared.cursor.HeadRead.{HeadRead}
-use Rattle.records.specs.declared.cursor.HeadRead.TheVariants as head
-use Rattle.records.specs.declared.Limit.{Limit}
+use Rattle.records.specs.Limits.{Limit}
+use Rattle.records.specs.declared.cursor.Head.{Head}
 use Rattle.records.specs.declared.Within.{Within}
 use Rattle.records.specs.declared.Within.TheVariants as within
 use Rattle.records.specs.Model.{kind_byte}
@@ -34,9 +35,9 @@ unfoldable pub locate_of : List ℕ → List ℕ → Located
 locate_of body key = cond (eqb (header_refusal body) 0) (locate_hash body (hash_of (seed_in body) key)) located.Damaged
 
 -- the versions of the record at p, by its head: 14 record header or key outside the body, nothing where the key differs
-abbrev pub open_head : List ℕ → ℕ → List ℕ → HeadRead → Opened
-open_head body p key head.Outside = opened.Damaged
-open_head body p key (head.At h) =
+abbrev pub open_head : List ℕ → ℕ → List ℕ → Option Head → Opened
+open_head body p key None = opened.Damaged
+open_head body p key (Some h) =
     cond (same_as (key_at body p) key) (opened.Open (record { first = h.first; count = h.versions })) opened.Nothing
 
 unfoldable pub open_record_of : List ℕ → ℕ → List ℕ → Opened
@@ -59,9 +60,9 @@ first_for body (opened.Open v) limit = first_within body limit v.first v.count
 
 -- the answer: 14 if offset + length passes the data
 unfoldable pub answer_of : ℕ → Within → Answer
-answer_of size (within.Found r) = cond (ltb size (r.offset + r.length)) (Refused 14) (Found r)
+answer_of size (within.Found r) = cond (ltb size (r.offset + r.length)) (Refused Damage) (Found r)
 answer_of size within.Nothing = Nothing
-answer_of size within.Damaged = Refused 14
+answer_of size within.Damaged = Refused Damage
 
 -- the answer to an opening under a limit, with data of this size
 abbrev pub answer_from : List ℕ → (size : ℕ) → Opened → Limit → Answer
@@ -75,7 +76,7 @@ get_of body size key limit = answer_from body size (open_of body key) limit
 unfoldable pub part_of : List ℕ → Answer → List ℕ
 part_of bytes (Found r) = take r.length (drop r.offset bytes)
 part_of bytes Nothing = []
-part_of bytes (Refused n) = []
+part_of bytes (Refused r) = []
 
 unfoldable pub value_of : (body bytes : List ℕ) → List ℕ → Limit → List ℕ
 value_of body bytes key limit = part_of bytes (get_of body (length bytes) key limit)
@@ -84,7 +85,7 @@ value_of body bytes key limit = part_of bytes (get_of body (length bytes) key li
 unfoldable pub start_of : Answer → ℕ
 start_of (Found r) = r.offset
 start_of Nothing = 0
-start_of (Refused n) = 0
+start_of (Refused r) = 0
 
 -- what a call of value promises of the part handed back, with the data lent at a place (its block, and how far in): the part's bytes, and that it
 -- lies in the lent data itself, from its start on
@@ -119,9 +120,9 @@ opened_values opened.Damaged = []
 abbrev pub answer_number : Answer → ℕ
 answer_number (Found r) = 0
 answer_number Nothing = 1
-answer_number (Refused n) = n
+answer_number (Refused r) = number r
 
 abbrev pub answer_values : Answer → List ℕ
 answer_values (Found r) = kind_byte r.kind ∷ r.sequence ∷ r.offset ∷ r.length ∷ []
 answer_values Nothing = []
-answer_values (Refused n) = []
+answer_values (Refused r) = []

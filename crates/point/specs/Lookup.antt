@@ -2,7 +2,7 @@
 use Rattle.std.specs.Prelude.{◌≤◌, ◌≡◌, true, false}
 use mathlib.Core.List.{List, Memᴰ}
 use Rattle.records.specs.declared.Record.{Record}
-use Rattle.records.specs.declared.Limit.{Limit}
+use Rattle.records.specs.Limits.{Limit}
 use Rattle.records.specs.Model.{within}
 
 -- a record among these, within the limit, and none of these within the limit has a greater sequence

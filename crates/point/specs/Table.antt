@@ -1,9 +1,8 @@
 -- The table that a body holds: the record list that its arena stands for; and whose a slot is.
-use Rattle.std.specs.Prelude.{ℕ, ◌+◌, ◌<◌, ◌≡◌, List, length, drop}
+use Rattle.std.specs.Prelude.{ℕ, ◌+◌, ◌<◌, ◌≡◌, List, length, drop, Some}
 use Rattle.std.proofs.Math.Option.{Option, none, some}
 use Rattle.mixing.specs.Mixing.{hash_of, fingerprint_of}
 use Rattle.layout.specs.Layout.{seed_in, keys_in, arena_in, slot_of, slot_place, record_offset, fingerprint_wide}
-use Rattle.records.specs.declared.DataLength.TheVariants.{Of}
 use Rattle.records.specs.declared.Record.{Record}
 use Rattle.records.specs.Model.{Entry, table_bytes}
 use Rattle.records.specs.Places.{key_at, entries_from, entry_place}
@@ -32,7 +31,7 @@ pub record HoldsTable (body : List ℕ) (size : ℕ) (table : List Entry) : Type
   pub count : length table ≡ keys_in body
   pub bytes : drop (arena_in body) body ≡ table_bytes table
   pub only : (other : List Entry) → TableFits other → drop (arena_in body) body ≡ table_bytes other → other ≡ table
-  pub rules : TableRules (Of size) table
+  pub rules : TableRules (Some size) table
   pub inside : TableInData size table
 
 -- slot s belongs to the i-th key: the key's hash leads to it, it names the key's place, and it holds the key's fingerprint

@@ -1,13 +1,12 @@
 -- Validation in document 01's order (document 01, "Validation").
-use Rattle.std.specs.Prelude.{ℕ, zero, suc, ◌-◌, ◌≡◌, List, [], ◌∷◌, not, cond, eqb}
+use Rattle.std.specs.Prelude.{ℕ, zero, suc, ◌-◌, ◌≡◌, List, [], ◌∷◌, not, cond, eqb, Some, Result}
 use Rattle.laws.specs.Refusals.{Cause, cause, first_of, or_else}
+use Rattle.numbers.specs.declared.Refusal.{Refusal}
+use Rattle.numbers.specs.Numbers.{answered}
 use Rattle.mixing.specs.Mixing.{hash_of, fingerprint_of}
 use Rattle.layout.specs.Layout.{header_refusal, seed_in, keys_in, buckets_in, arena_in, pilot_at, direct_past, slot_of, slot_place, record_offset, fingerprint_wide}
-use Rattle.records.specs.declared.DataLength.TheVariants.{Of}
 use Rattle.records.specs.Places.{key_at}
 use Rattle.records.specs.Walk.{walk_from}
-use Rattle.point.specs.declared.Validated.{Validated}
-use Rattle.point.specs.declared.Validated.TheVariants.{Accepted, Refused}
 
 -- 22 a direct pilot at or past n, among the k pilots from i on
 unfoldable pub pilots_refusal : List ℕ → (n i : ℕ) → ℕ → ℕ
@@ -30,7 +29,7 @@ slot_refusal body p = slot_test body (hash_of (seed_in body) (key_at body p)) p
 
 -- 23 to 30, over the arena
 abbrev pub arena_refusal : List ℕ → ℕ → ℕ
-arena_refusal body size = (walk_from (slot_refusal body) body (Of size) (arena_in body) (arena_in body) (keys_in body)).rule
+arena_refusal body size = (walk_from (slot_refusal body) body (Some size) (arena_in body) (arena_in body) (keys_in body)).rule
 
 -- the number that validation refuses with, 0 where it accepts
 unfoldable pub validation_refusal : List ℕ → ℕ → ℕ
@@ -38,17 +37,8 @@ validation_refusal body size =
     or_else (header_refusal body) (or_else (pilots_refusal body (keys_in body) 0 (buckets_in body)) (arena_refusal body size))
 
 -- the answer of validation
-abbrev pub verdict : ℕ → Validated
-verdict zero = Accepted
-verdict (suc n) = Refused (suc n)
-
-unfoldable pub validate_of : List ℕ → ℕ → Validated
-validate_of body size = verdict (validation_refusal body size)
-
--- the paper's number of an answer: 0 accepted, else the refusal's
-abbrev pub refusal_number : Validated → ℕ
-refusal_number Accepted = 0
-refusal_number (Refused n) = n
+unfoldable pub validate_of : List ℕ → ℕ → Result (Unit {0}) Refusal
+validate_of body size = answered (validation_refusal body size) (record {})
 
 -- 20 to 22 passed
 pub record Checked (body : List ℕ) : Type 0 where

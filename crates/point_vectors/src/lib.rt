@@ -3,14 +3,14 @@
 
 ghost use Rattle.std.specs.Prelude.{◌≡◌, ◌+◌, ◌≤◌, length};
 
-use point::{Answer, Validated};
+use point::Answer;
 use records::{Limit, Record};
 use std::io;
 use std::io::Print;
 use vectors::Count;
 
 // The counts of each op; and where the base body stands in the file, a `bytes` field.
-#[derive(Drop)]
+#[derive(Default, Drop)]
 pub struct Tally {
     validate: Count,
     get: Count,
@@ -26,10 +26,9 @@ fn validate_agrees(base: &[u8], p: &[u8]) -> bool {
         return false;
     }
     let number = vectors::u8_in(p, at + 8);
-    let answer = point::validate(&room[..size], vectors::u64_in(p, at));
-    match answer {
-        Validated::Accepted => number == 0,
-        Validated::Refused(n) => n == number,
+    match point::validate(&room[..size], vectors::u64_in(p, at)) {
+        Ok(()) => number == 0,
+        Err(refusal) => refusal.number() == number,
     }
 }
 
@@ -37,11 +36,7 @@ fn validate_agrees(base: &[u8], p: &[u8]) -> bool {
 fn data() -> [u8; 4096]
     ensures { 4096 ≡ length result }
 {
-    let mut bytes = [0u8; 4096];
-    for i in 0..4096usize {
-        bytes[i] = ((i * 167 ^ i / 256 * 59 ^ i / 65536) % 256) as u8;
-    }
-    bytes
+    std::array::from_fn(|i| ((i * 167 ^ i / 256 * 59 ^ i / 65536) % 256) as u8)
 }
 
 // The limit at a place: u8 given, u64 limit.
@@ -49,39 +44,31 @@ fn limit_in(p: &[u8], at: usize) -> Limit
     requires { at + 9 ≤ length p.now }
 {
     if vectors::u8_in(p, at) == 0 {
-        return Limit::None;
+        None
+    } else {
+        Some(vectors::u64_in(p, at + 1))
     }
-    Limit::UpTo(vectors::u64_in(p, at + 1))
 }
 
 // The record whose kind, sequence, offset and length stand at a place.
 fn record_agrees(r: Record, p: &[u8], at: usize) -> bool
     requires { at + 25 ≤ length p.now }
 {
-    let kind = r.kind;
-    if kind.byte() != vectors::u8_in(p, at) {
-        return false;
-    }
-    if r.sequence != vectors::u64_in(p, at + 1) {
-        return false;
-    }
-    if r.offset != vectors::u64_in(p, at + 9) {
-        return false;
-    }
-    r.length as u64 == vectors::u64_in(p, at + 17)
+    r.kind.byte() == vectors::u8_in(p, at)
+        && r.sequence == vectors::u64_in(p, at + 1)
+        && r.offset == vectors::u64_in(p, at + 9)
+        && r.length as u64 == vectors::u64_in(p, at + 17)
 }
 
 // The value handed back is the part of the data that the record names.
 fn value_agrees(r: Record, bytes: &[u8], value: &[u8]) -> bool {
-    if (bytes.len() as u64) < r.offset {
+    let Some(behind) = bytes.get(r.offset as usize..) else {
         return false;
+    };
+    match behind.get(..r.length as usize) {
+        Some(named) => words::part::same(named, value),
+        None => false,
     }
-    let from = r.offset as usize;
-    if bytes.len() - from < r.length as usize {
-        return false;
-    }
-    let to = from + r.length as usize;
-    words::part::same(&bytes[from..to], value)
 }
 
 // The answer and the value as they stand at a place: u8 0 nothing, 1 found or 14; then the record.
@@ -91,26 +78,10 @@ fn answer_agrees(answer: Answer, bytes: &[u8], value: &[u8], p: &[u8], at: usize
     let number = vectors::u8_in(p, at);
     match answer {
         Answer::Found(r) => {
-            if number != 1 {
-                return false;
-            }
-            if !record_agrees(r, p, at + 1) {
-                return false;
-            }
-            value_agrees(r, bytes, value)
+            number == 1 && record_agrees(r, p, at + 1) && value_agrees(r, bytes, value)
         }
-        Answer::Nothing => {
-            if number != 0 {
-                return false;
-            }
-            value.len() == 0
-        }
-        Answer::Refused(n) => {
-            if number != n {
-                return false;
-            }
-            value.len() == 0
-        }
+        Answer::Nothing => number == 0 && value.is_empty(),
+        Answer::Refused(refusal) => number == refusal.number() && value.is_empty(),
     }
 }
 
@@ -131,45 +102,25 @@ fn get_agrees(base: &[u8], p: &[u8]) -> bool {
     let size = vectors::patch::patched(base, p, &mut room);
     let at = vectors::patch::after_patches(p);
     let end = vectors::bytes_end(p, at + 8);
-    if p.len() < end {
-        return false;
-    }
     if p.len() - end != 35 {
         return false;
     }
-    let length = vectors::u64_in(p, at);
-    if 4096 < length {
-        return false;
+    match data().get(..vectors::u64_in(p, at) as usize) {
+        Some(bytes) => reading_agrees(&room[..size], bytes, p, at + 8, end),
+        None => false,
     }
-    let lent = length as usize;
-    let bytes = data();
-    reading_agrees(&room[..size], &bytes[..lent], p, at + 8, end)
 }
 
 impl Tally {
-    // No case yet.
-    pub fn new() -> Self {
-        Tally {
-            validate: Count::new(),
-            get: Count::new(),
-            body: 0,
-        }
-    }
-
     // Replays the case whose payload is the `bytes` field at a place of the file.
     pub fn replayed(mut self, file: &[u8], op: u8, place: usize) -> Tally {
         let p = vectors::bytes_in(file, place);
-        let body = self.body;
-        if op == 0x20 {
-            self.body = vectors::end_in(file, place, 4);
-        } else if op == 0x21 {
-            self.validate = self
-                .validate
-                .counted(validate_agrees(vectors::bytes_in(file, body), p));
-        } else if op == 0x22 {
-            self.get = self
-                .get
-                .counted(get_agrees(vectors::bytes_in(file, body), p));
+        let body = vectors::bytes_in(file, self.body);
+        match op {
+            0x20 => self.body = vectors::end_in(file, place, 4),
+            0x21 => self.validate = self.validate.counted(validate_agrees(body, p)),
+            0x22 => self.get = self.get.counted(get_agrees(body, p)),
+            _ => {}
         }
         self
     }

@@ -1,4 +1,8 @@
 -- Document 01's example, computed: what hashes, positions and fingerprints its keys have is computed in mixrule. Assumes nothing.
+use Rattle.std.specs.Prelude.{Ok, Result}
+use Rattle.numbers.specs.Numbers.{answered, number_of}
+use Rattle.numbers.specs.declared.Refusal.{Refusal}
+use Rattle.std.specs.Prelude.{None}
 use Prim.Native.Nat.{ℕ, ◌+◌, ◌≤◌}
 use native.Mathlib.Omega.{arith}
 use mathlib.Core.Path.{◌≡◌, refl, sym, ap, ◌∙◌, subst}
@@ -15,8 +19,7 @@ use Rattle.words.proofs.Laws.{bytes_tested}
 use Rattle.words.specs.Field.{AllBytes}
 use Rattle.mixing.specs.Mixing.{seed_of}
 use Rattle.mixing.specs.Example.{hashes, positions, fingerprints}
-use Rattle.records.specs.declared.DataLength.TheVariants.{Untested}
-use Rattle.records.specs.declared.Limit.{Limit}
+use Rattle.records.specs.Limits.{Limit}
 use Rattle.records.specs.Example.{example_table, example_arena}
 use Rattle.records.specs.Model.{Entry, version_bytes, versions_bytes, entry_bytes, table_bytes, lookup}
 use Rattle.records.specs.Places.{key_at, record_at, versions_from, entry_at, entries_from, entry_place}
@@ -31,13 +34,10 @@ use Rattle.construct.specs.Keys.{hashes_of, attempt_hashes}
 use Rattle.construct.proofs.Figures.{one_bucket}
 use Rattle.point.specs.Get.{get_of}
 use Rattle.point.specs.Table.{table_of, answer_to}
-use Rattle.point.specs.Validate.{validate_of, refusal_number}
-use Rattle.point.specs.declared.Validated.TheVariants.{Accepted}
+use Rattle.point.specs.Validate.{validate_of}
 use Rattle.point.proofs.Theorems.{get_is_lookup}
-use Rattle.finish.specs.declared.Finished.{Finished}
-use Rattle.finish.specs.declared.Finished.TheVariants.{Body}
 use Rattle.finish.specs.Body.{arena_start, header_bytes, pilots_bytes, slot_bytes, held_slot, slots_bytes, body_bytes, placed_of, body_of}
-use Rattle.finish.specs.Finish.{walked, keys_of, lengths_refusal, placing_refusal, answered, body_length, finish_of, FinishPost}
+use Rattle.finish.specs.Finish.{walked, keys_of, lengths_refusal, placing_refusal, body_length, finish_of, FinishPost}
 use Rattle.finish.proofs.LengthLaws.{length_fits}
 use Rattle.finish.proofs.FinishLaws.{refused_late}
 use Rattle.finish.proofs.SelfCheck.{check_passes}
@@ -80,9 +80,9 @@ example_inside =
     let C12 : 108 + 8 ≤ 116 = omega arith in
     each_more (each_more A9 (each_more A4 each_none)) (each_more (each_more B7 (each_more B3 each_none)) (each_more (each_more C12 each_none) each_none))
 
-example_rules : TableRules Untested example_table
+example_rules : TableRules None example_table
 unfolding walked
-example_rules = subst (TableRules Untested) example_entries (read_back unslotted example_arena Untested 0 0 (length example_arena) example_bytes (omega arith)).rules
+example_rules = subst (TableRules None) example_entries (read_back unslotted example_arena None 0 0 (length example_arena) example_bytes (omega arith)).rules
 
 key_bytes : Each KeyBytes example_table
 unfolding example_table
@@ -153,11 +153,11 @@ never_refused : placing_refusal example_arena (keys_of example_arena) ≡ 0
 unfolding placing_refusal
 never_refused = rw (example_keys, example_placed, check_passes example_arena 3 0 example_placing (omega arith) example_placed)
 
-pub example_finished : (out wide narrow : ℕ) → 204 ≤ out → 6 ≤ wide → 32 ≤ narrow → finish_of example_arena out wide narrow ≡ Body 204
+pub example_finished : (out wide narrow : ℕ) → 204 ≤ out → 6 ≤ wide → 32 ≤ narrow → finish_of example_arena out wide narrow ≡ Ok 204
 unfolding finish_of
 example_finished out wide narrow o w u =
     ap (λ (r : ℕ). answered r (body_length example_arena (keys_of example_arena))) (refused_late example_arena out wide narrow fits ∙ never_refused)
-    ∙ ap Body example_length
+    ∙ ap Ok example_length
   where
     fits : lengths_refusal example_arena out wide narrow ≡ 0
     fits =
@@ -166,7 +166,7 @@ example_finished out wide narrow o w u =
         (length_fits (length example_arena) (walked example_arena).end (keys_of example_arena) out wide narrow example_end
         (λ z. omega arith) (omega arith) (omega arith) (omega arith) (omega (arith, example_length)))
 
-pub example_fits : finish_of example_arena 204 6 32 ≡ Body 204
+pub example_fits : finish_of example_arena 204 6 32 ≡ Ok 204
 example_fits = example_finished 204 6 32 (omega arith) (omega arith) (omega arith)
 
 -- ---- the body
@@ -179,15 +179,15 @@ pub example_body_is : body_of example_arena (keys_of example_arena) ≡ example_
 unfolding body_of
 example_body_is = rw (example_keys, example_placed) bytes_are
 
-pub example_output : {out wide narrow out' wide' narrow' : List ℕ} {r : Finished} → RoomOf 204 6 32 (length out) (length wide) (length narrow) → FinishPost example_arena out wide narrow r out' wide' narrow'
-    → (r ≡ Body 204) × (take 204 out' ≡ example_body)
+pub example_output : {out wide narrow out' wide' narrow' : List ℕ} {r : Result ℕ Refusal} → RoomOf 204 6 32 (length out) (length wide) (length narrow) → FinishPost example_arena out wide narrow r out' wide' narrow'
+    → (r ≡ Ok 204) × (take 204 out' ≡ example_body)
 example_output {out} {wide} {narrow} {out'} {wide'} {narrow'} R P =
     let e = P.answer ∙ example_finished (length out) (length wide) (length narrow) R.out_room R.wide_room R.narrow_room in
-    (e, output_body example_bytes (subst (λ (x : Finished). FinishPost example_arena out wide narrow x out' wide' narrow') e P) ∙ example_body_is)
+    (e, output_body example_bytes (subst (λ (x : Result ℕ Refusal). FinishPost example_arena out wide narrow x out' wide' narrow') e P) ∙ example_body_is)
 
 -- ---- validation and get
 
-pub example_accepted : validate_of example_body 116 ≡ Accepted
+pub example_accepted : validate_of example_body 116 ≡ Ok (record {})
 example_accepted =
     ap (λ (b : List ℕ). validate_of b 116) (sym example_body_is)
     ∙ finish_accepted example_arena 204 6 32 204 example_bytes example_fits 116 (subst (TableInData 116) (sym example_entries) example_inside)
@@ -207,7 +207,7 @@ example_read key limit =
 
 not_refused : listing_refusal example_input ≡ 0
 unfolding listing_refusal size_refusal example_input example_body bytes_of le spelled
-not_refused = ap refusal_number example_accepted
+not_refused = ap number_of example_accepted
 
 example_listed : text_of newest_tombstone example_input ≡ example_text
 unfolding text_of example_input bytes_of le spelled

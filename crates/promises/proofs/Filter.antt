@@ -1,4 +1,8 @@
 -- Demand 3 of a filter, the queue's bound and the sizing rule, from the theorems of filter, peel and sizing. Assumes nothing.
+use Rattle.numbers.specs.declared.Refusal.{Refusal}
+use Rattle.std.specs.Prelude.{Result}
+use Rattle.std.specs.Prelude.{Err, Ok}
+use Rattle.numbers.specs.Numbers.{number_of}
 use Prim.Native.Nat.{ℕ, ◌≤◌, ◌<◌}
 use native.Mathlib.Omega.{arith}
 use mathlib.Core.Path.{◌≡◌, refl, sym, ap, ◌∙◌}
@@ -20,10 +24,10 @@ use Rattle.sizing.proofs.SizedLaws.{usable}
 use Rattle.sort.specs.Sort.{sorted}
 use Rattle.peel.proofs.AttemptLaws as peeling
 use Rattle.filter.specs.declared.Built.{Built}
-use Rattle.filter.specs.declared.Built.TheVariants.{Positive, Fuse, Refused}
+use Rattle.filter.specs.declared.Built.TheVariants.{Positive, Fuse}
 use Rattle.filter.specs.Reading.{read_of, read_refusal}
 use Rattle.filter.specs.Asking.{ask_number}
-use Rattle.filter.specs.Building.{built_refusal, length_by, built_values, BuildPost, FilterOf, as_read}
+use Rattle.filter.specs.Building.{length_by, built_values, BuildPost, FilterOf, as_read}
 use Rattle.filter.proofs.BuiltLaws.{zero_accepts, filter_cause, built_values_is, built_reads, never_absent}
 use Rattle.kiban_c.specs.Lent.{number_by, left_by}
 use Rattle.kiban_c.specs.FilterCalls.{build_called, filter_build_checks, FilterBuildCall, filter_ask_of, ask_all_values, filter_ask_all_checks, FilterAskAllCall}
@@ -42,8 +46,8 @@ sized_for hashes s F = record {
   enough = F.enough;
 }
 
-filter_stands : {hashes wide narrow out : List ℕ} {r : Built} {hashes' wide' narrow' out' : List ℕ} → BuildPost hashes wide narrow out r hashes' wide' narrow' out'
-    → built_refusal r ≡ 0 → FilterStands hashes r out'
+filter_stands : {hashes wide narrow out : List ℕ} {r : Result Built Refusal} {hashes' wide' narrow' out' : List ℕ} → BuildPost hashes wide narrow out r hashes' wide' narrow' out'
+    → number_of r ≡ 0 → FilterStands hashes r out'
 filter_stands {hashes} {wide} {narrow} {out} {r} P z =
     let n = zero_accepts P z in
     record {
@@ -56,20 +60,20 @@ filter_stands {hashes} {wide} {narrow} {out} {r} P z =
 -- ---- the C boundary
 
 -- the length in the answer's front, and what is asked of what was built
-length_front : (b : Built) (answer : List ℕ) → ((q : ℕ) → b ≡ Refused q → ⊥) → get_or (splice answer 0 (built_values b)) 0 0 ≡ length_by b
-length_front Positive answer n = ap (λ (l : List ℕ). get_or l 0 0) (splice_front answer (built_values Positive))
-length_front (Fuse s) answer n = ap (λ (l : List ℕ). get_or l 0 0) (splice_front answer (built_values (Fuse s)))
-length_front (Refused q) answer n = absurd (n q refl)
+length_front : (b : Result Built Refusal) (answer : List ℕ) → ((q : Refusal) → b ≡ Err q → ⊥) → get_or (splice answer 0 (built_values b)) 0 0 ≡ length_by b
+length_front (Ok Positive) answer n = ap (λ (l : List ℕ). get_or l 0 0) (splice_front answer (built_values (Ok Positive)))
+length_front (Ok (Fuse s)) answer n = ap (λ (l : List ℕ). get_or l 0 0) (splice_front answer (built_values (Ok (Fuse s))))
+length_front (Err q) answer n = absurd (n q refl)
 
-asks_each : (b : Built) (bytes asked : List ℕ) → ((q : ℕ) → b ≡ Refused q → ⊥)
+asks_each : (b : Result Built Refusal) (bytes asked : List ℕ) → ((q : Refusal) → b ≡ Err q → ⊥)
     → (read_refusal (as_read b) ≡ 0) × (ask_all_values (as_read b) bytes asked ≡ map (filter_ask_of bytes) asked)
-asks_each Positive bytes asked n = (refl, refl)
-asks_each (Fuse s) bytes asked n = (refl, refl)
-asks_each (Refused q) bytes asked n = absurd (n q refl)
+asks_each (Ok Positive) bytes asked n = (refl, refl)
+asks_each (Ok (Fuse s)) bytes asked n = (refl, refl)
+asks_each (Err q) bytes asked n = absurd (n q refl)
 
 module _ {hashes wide narrow out answer hashes' wide' narrow' out' answer' : List ℕ}
     (P : FilterBuildCall hashes wide narrow out answer 0 hashes' wide' narrow' out' answer') where
-  no_refusal : (first_of (filter_build_checks answer) ≡ 0) × (built_refusal (build_called hashes wide narrow out) ≡ 0)
+  no_refusal : (first_of (filter_build_checks answer) ≡ 0) × (number_of (build_called hashes wide narrow out) ≡ 0)
   unfolding number_by
   no_refusal = or_else_zero _ _ (sym P.number)
 
@@ -86,7 +90,7 @@ module _ {hashes wide narrow out answer hashes' wide' narrow' out' answer' : Lis
     out_after_is = P.out_after_is ∙ own _ _;
   }
 
-  taken : (q : ℕ) → build_called hashes wide narrow out ≡ Refused q → ⊥
+  taken : (q : Refusal) → build_called hashes wide narrow out ≡ Err q → ⊥
   taken = zero_accepts post no_refusal.1
 
   stands : FilterStands hashes (build_called hashes wide narrow out) out'

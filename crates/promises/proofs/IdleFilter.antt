@@ -1,4 +1,5 @@
 -- An idle filter is shut out: an attempt over one hash takes it off at its first step. Assumes nothing.
+use Rattle.std.specs.Prelude.{Ok}
 use Prim.Native.Nat.{ℕ, zero, suc, ◌-◌, ◌≤◌, ◌<◌}
 use native.Mathlib.Omega.{arith}
 use mathlib.Core.Path.{◌≡◌, refl, sym, ap, ◌∙◌}
@@ -102,7 +103,7 @@ first_attempt_lem hash =
     ap (λ (hs : List ℕ). succeeds (segment_of 1) (segments_of 1 - 3) (mix_of 1) hs) (sorted_one hash)
     ∙ one_hash_peels (segment_of 1) (segments_of 1 - 3) (mix_of 1) hash (usable 1 (omega arith) (omega arith))
 
-never_positive : {hash : ℕ} {wide narrow out hashes' wide' narrow' out' : List ℕ} → BuildPost (hash ∷ []) wide narrow out Positive hashes' wide' narrow' out' → ⊥
+never_positive : {hash : ℕ} {wide narrow out hashes' wide' narrow' out' : List ℕ} → BuildPost (hash ∷ []) wide narrow out (Ok Positive) hashes' wide' narrow' out' → ⊥
 never_positive {hash} P = go (positive_cause P refl)
   where
     go : WhyPositive (hash ∷ []) → ⊥

@@ -1,4 +1,9 @@
 -- Idle indexes are shut out: one key is placed by computing, three are the example. Assumes nothing.
+use Rattle.numbers.specs.declared.Refusal.TheVariants.{Attempts}
+use Rattle.std.specs.Prelude.{Err, Ok, Result}
+use Rattle.numbers.specs.Numbers.{answered, number_of}
+use Rattle.numbers.specs.declared.Refusal.{Refusal}
+use Rattle.std.specs.Prelude.{None}
 use Prim.Native.Nat.{ℕ, ◌+◌, ◌≤◌, ◌<◌}
 use native.Mathlib.Omega.{arith}
 use mathlib.Core.Path.{◌≡◌, refl, sym, ap, ◌∙◌, subst}
@@ -14,7 +19,6 @@ use Rattle.words.specs.Field.{AllBytes}
 use Rattle.mixing.specs.Mixing.{hash_of, seed_of}
 use Rattle.layout.specs.Layout.{keys_in}
 use Rattle.records.specs.declared.Kind.TheVariants.{Tombstone}
-use Rattle.records.specs.declared.Limit.TheVariants.{None}
 use Rattle.records.specs.Example.{example_table, example_arena}
 use Rattle.records.specs.Model.{Entry, version_bytes, versions_bytes, entry_bytes, table_bytes, within, better, greatest, records_of, lookup}
 use Rattle.records.specs.Places.{key_at, record_at, versions_from, entry_at, entries_from}
@@ -28,10 +32,8 @@ use Rattle.point.specs.declared.Answer.TheVariants.{Found, Nothing}
 use Rattle.point.specs.Get.{get_of, answer_number}
 use Rattle.point.specs.Table.{OneBelow, Belongs, answer_to}
 use Rattle.point.proofs.SlotLaws.{slot_owner, owner_slot}
-use Rattle.finish.specs.declared.Finished.{Finished}
-use Rattle.finish.specs.declared.Finished.TheVariants.{Body, Refused}
 use Rattle.finish.specs.Body.{arena_start}
-use Rattle.finish.specs.Finish.{walked, keys_of, lengths_refusal, answered, body_length, finish_of, FinishPost, finished_number}
+use Rattle.finish.specs.Finish.{walked, keys_of, lengths_refusal, body_length, finish_of, FinishPost}
 use Rattle.finish.proofs.LengthLaws.{length_fits}
 use Rattle.finish.proofs.Answers.{finish_number, ten_exhausts, body_or_ten}
 use Rattle.finish.proofs.Accepted.{finish_get}
@@ -66,31 +68,31 @@ one_hashes : (i : ℕ) → attempt_hashes one_arena (keys_of one_arena) i ≡ ha
 unfolding attempt_hashes hashes_of
 one_hashes i = ap (λ (n : ℕ). attempt_hashes one_arena n i) one_keys
 
-one_number : (out wide narrow : ℕ) → finished_number (finish_of one_arena out wide narrow) ≡ 10 → ⊥
+one_number : (out wide narrow : ℕ) → number_of (finish_of one_arena out wide narrow) ≡ 10 → ⊥
 one_number out wide narrow e =
     some-ne-none _ (sym (one_key_is (hash_of (seed_of 0) (arena_key one_arena 0))) ∙ ap attempt_of (sym (one_hashes 0)) ∙ ten_exhausts one_arena out wide narrow e 0 (omega arith))
 
-never_ten : {out wide narrow out' wide' narrow' : List ℕ} → FinishPost one_arena out wide narrow (Refused 10) out' wide' narrow' → ⊥
-never_ten {out} {wide} {narrow} P = one_number (length out) (length wide) (length narrow) (ap finished_number (sym P.answer))
+never_ten : {out wide narrow out' wide' narrow' : List ℕ} → FinishPost one_arena out wide narrow (Err Attempts) out' wide' narrow' → ⊥
+never_ten {out} {wide} {narrow} P = one_number (length out) (length wide) (length narrow) (ap number_of (sym P.answer))
 
-module _ {out wide narrow out' wide' narrow' : List ℕ} {r : Finished} (R : RoomOf 78 2 16 (length out) (length wide) (length narrow)) (P : FinishPost one_arena out wide narrow r out' wide' narrow') where
+module _ {out wide narrow out' wide' narrow' : List ℕ} {r : Result ℕ Refusal} (R : RoomOf 78 2 16 (length out) (length wide) (length narrow)) (P : FinishPost one_arena out wide narrow r out' wide' narrow') where
   one_fits : lengths_refusal one_arena (length out) (length wide) (length narrow) ≡ 0
   one_fits =
       sym
       (length_fits (length one_arena) (walked one_arena).end (keys_of one_arena) (length out) (length wide) (length narrow) one_end
       (λ z. omega (arith, one_keys)) (omega (arith, one_keys)) (omega (arith, one_keys, R.wide_room)) (omega (arith, one_keys, R.narrow_room)) (omega (arith, one_body, R.out_room)))
 
-  one_finished : r ≡ Body 78
+  one_finished : r ≡ Ok 78
   unfolding finish_of
   one_finished = go (body_or_ten one_arena (length out) (length wide) (length narrow) (omega (arith, one_keys)) one_fits)
     where
-      go : (finished_number (finish_of one_arena (length out) (length wide) (length narrow)) ≡ 0) ⊎ (finished_number (finish_of one_arena (length out) (length wide) (length narrow)) ≡ 10) → r ≡ Body 78
+      go : (number_of (finish_of one_arena (length out) (length wide) (length narrow)) ≡ 0) ⊎ (number_of (finish_of one_arena (length out) (length wide) (length narrow)) ≡ 10) → r ≡ Ok 78
       go (inl z) =
-          P.answer ∙ ap (λ (x : ℕ). answered x (body_length one_arena (keys_of one_arena))) (sym (finish_number one_arena (length out) (length wide) (length narrow)) ∙ z) ∙ ap Body one_body
+          P.answer ∙ ap (λ (x : ℕ). answered x (body_length one_arena (keys_of one_arena))) (sym (finish_number one_arena (length out) (length wide) (length narrow)) ∙ z) ∙ ap Ok one_body
       go (inr t) = absurd (one_number (length out) (length wide) (length narrow) t)
 
-  one_post : FinishPost one_arena out wide narrow (Body 78) out' wide' narrow'
-  one_post = subst (λ (x : Finished). FinishPost one_arena out wide narrow x out' wide' narrow') one_finished P
+  one_post : FinishPost one_arena out wide narrow (Ok 78) out' wide' narrow'
+  one_post = subst (λ (x : Result ℕ Refusal). FinishPost one_arena out wide narrow x out' wide' narrow') one_finished P
 
   one_found : get_of (take 78 out') 8 (65 ∷ []) None ≡ Found (put_of 9 0)
   unfolding one_table lookup records_of greatest better within same_as
@@ -111,8 +113,8 @@ body_keys : keys_in example_body ≡ 3
 unfolding example_body le spelled
 body_keys = refl
 
-module _ {out wide narrow out' wide' narrow' : List ℕ} {r : Finished} (R : RoomOf 204 6 32 (length out) (length wide) (length narrow)) (P : FinishPost example_arena out wide narrow r out' wide' narrow') where
-  all_finished : r ≡ Body 204
+module _ {out wide narrow out' wide' narrow' : List ℕ} {r : Result ℕ Refusal} (R : RoomOf 204 6 32 (length out) (length wide) (length narrow)) (P : FinishPost example_arena out wide narrow r out' wide' narrow') where
+  all_finished : r ≡ Ok 204
   all_finished = (example.example_output R P).0
 
   found : (key : List ℕ) → get_of (take 204 out') 116 key None ≡ answer_to (lookup example_table key None)

@@ -1,4 +1,7 @@
 -- What the desk reads, from the theorems of lines. Assumes nothing.
+use Rattle.std.specs.Prelude.{Ok, Result}
+use Rattle.numbers.specs.declared.Refusal.{Refusal}
+use Rattle.std.specs.Prelude.{None, Some}
 use Prim.Native.Nat.{ℕ, ◌≤◌}
 use mathlib.Core.Path.{◌≡◌, refl, sym, ap, ap₂, ◌∙◌}
 use mathlib.Core.Bool.{Bool}
@@ -9,15 +12,12 @@ use borrow.Author.Tests.{le-leb}
 use Rattle.words.proofs.Laws.{bytes_drop}
 use Rattle.words.proofs.PartLaws.{splice_front}
 use Rattle.layout.specs.Layout.{keys_in, arena_in}
-use Rattle.records.specs.declared.Limit.TheVariants.{None, UpTo}
 use Rattle.records.specs.Model.{lookup, Rises}
 use Rattle.records.proofs.PassedLaws.{entries_count}
-use Rattle.point.specs.declared.Validated.TheVariants.{Accepted}
 use Rattle.point.specs.Validate.{validate_of}
 use Rattle.point.specs.Table.{table_of, answer_to}
 use Rattle.point.proofs.SlotLaws.{accepted_rises}
 use Rattle.point.proofs.Theorems.{get_is_lookup}
-use Rattle.lines.specs.declared.Listed.{Listed}
 use Rattle.lines.specs.Shown.{Rule, tombstone_in, newest_tombstone}
 use Rattle.lines.specs.Listing.{line_count, listing_header, table_text, limit_in, data_length_in, body_in, text_of, listed_of, Listing}
 use Rattle.lines.specs.Causes.{Listable}
@@ -27,7 +27,7 @@ use Rattle.lines.proofs.Theorems.{newest_out, room_values}
 use Rattle.lines.proofs.CountLaws as counts
 use Rattle.promises.specs.Listed.{table_in, shown_in, lines_in, TextStands, ListedLines, OnListing}
 
-text_stands : {rule : Rule} {input before : List ℕ} {r : Listed} {after : List ℕ} → Listing rule input before r after
+text_stands : {rule : Rule} {input before : List ℕ} {r : Result ℕ Refusal} {after : List ℕ} → Listing rule input before r after
     → length (text_of rule input) ≤ length before → TextStands rule input r after
 unfolding listed_of
 text_stands {rule} {input} {before} P room =
@@ -39,7 +39,7 @@ text_stands {rule} {input} {before} P room =
       refused_stands = λ n s. front ∙ stops_refused rule input n s;
     }
 
-listed_lines : (input : List ℕ) → validate_of (body_in input) (data_length_in input) ≡ Accepted → ListedLines input
+listed_lines : (input : List ℕ) → validate_of (body_in input) (data_length_in input) ≡ Ok (record {}) → ListedLines input
 listed_lines input ok =
     let limit = limit_in input in
     let rises : Rises (table_in input) = accepted_rises (body_in input) (data_length_in input) ok in
@@ -52,7 +52,7 @@ listed_lines input ok =
       line_only = only;
       line_all = theorems.line_all newest_tombstone limit (table_in input) rises out is-out;
       line_found = λ all s m.
-          get_is_lookup (body_in input) (data_length_in input) ok (bytes_drop 16 input all) s.key (UpTo limit) ∙ ap answer_to (only s m).1;
+          get_is_lookup (body_in input) (data_length_in input) ok (bytes_drop 16 input all) s.key (Some limit) ∙ ap answer_to (only s m).1;
       keys_rise = theorems.keys_rise newest_tombstone limit (table_in input) rises;
     }
 

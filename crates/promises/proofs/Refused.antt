@@ -1,4 +1,7 @@
 -- Demand 1 holds: the causes of each call's numbers, from the laws of its crate. Assumes nothing.
+use Rattle.std.specs.Prelude.{Result}
+use Rattle.numbers.specs.Numbers.{number_of}
+use Rattle.numbers.specs.declared.Refusal.{Refusal}
 use Prim.Native.Nat.{ℕ}
 use mathlib.Core.Path.{◌≡◌, sym, ap, ◌∙◌}
 use mathlib.Core.Bool.{Bool, cond}
@@ -7,13 +10,11 @@ use native.Mathlib.Omega.{arith}
 use borrow.Author.Tests.{eq-eqb, ne_eqb}
 use lib.ListN.{length, replicate}
 use Rattle.builder.specs.declared.PointBuilder.{PointBuilder}
-use Rattle.builder.specs.declared.Added.{Added}
-use Rattle.builder.specs.declared.OffsetSet.{OffsetSet}
-use Rattle.builder.specs.Add.{Call, added_number, AddPost}
-use Rattle.builder.specs.SetOffset.{set_number, SetPost}
+use Rattle.builder.specs.Add.{Added}
+use Rattle.builder.specs.Add.{Call, AddPost}
+use Rattle.builder.specs.SetOffset.{SetPost}
 use Rattle.builder.proofs.Answers.{add_refuses, add_cause, cause_add, set_refuses, set_cause, cause_set}
-use Rattle.finish.specs.declared.Finished.{Finished}
-use Rattle.finish.specs.Finish.{finish_refusal, finished_number, out_after, space_after, FinishPost}
+use Rattle.finish.specs.Finish.{finish_refusal, out_after, space_after, FinishPost}
 use Rattle.finish.proofs.Answers.{finish_number, cause_first, cause_given, ten_attempts, attempts_ten, never_eleven}
 use Rattle.point.proofs.CauseLaws.{validate_cause, cause_validate, stops_between}
 use Rattle.point.proofs.AnswerLaws.{locate_cause, cause_locate, record_cause, cause_record, open_cause, cause_open, get_cause, cause_get, locate_open, open_get}
@@ -30,17 +31,17 @@ pub add_refusals : {s : PointBuilder} {before : List ℕ} {call : Call} {r : Add
     → AddPost s before call r after → AddRefused s before call r after
 add_refusals {s} {before} {call} P = record {
   add_refused = λ n l e.
-      let f = add_cause s before call n l (ap added_number (sym P.answer) ∙ e) in
+      let f = add_cause s before call n l (ap number_of (sym P.answer) ∙ e) in
       (f, P.buffer ∙ (add_refuses s before call f).1);
-  refused_add = λ n f. ap added_number P.answer ∙ cause_add s before call n f;
+  refused_add = λ n f. ap number_of P.answer ∙ cause_add s before call n f;
 }
 
-set_refusals : {s : PointBuilder} {before : List ℕ} {place offset : ℕ} {r : OffsetSet} {after : List ℕ} → SetPost s before place offset r after → SetRefused s before place r after
+set_refusals : {s : PointBuilder} {before : List ℕ} {place offset : ℕ} {r : Result (Unit {0}) Refusal} {after : List ℕ} → SetPost s before place offset r after → SetRefused s before place r after
 set_refusals {s} {before} {place} {offset} P = record {
   set_refused = λ n l e.
-      let f = set_cause s before place offset n l (ap set_number (sym P.answer) ∙ e) in
+      let f = set_cause s before place offset n l (ap number_of (sym P.answer) ∙ e) in
       (f, P.buffer ∙ (set_refuses s before place offset f).1);
-  refused_set = λ n f. ap set_number P.answer ∙ cause_set s before place offset n f;
+  refused_set = λ n f. ap number_of P.answer ∙ cause_set s before place offset n f;
 }
 
 space_left : (refusal : ℕ) (space after : List ℕ) → after ≡ space_after refusal space → SpaceLeft refusal space after
@@ -49,9 +50,9 @@ space_left refusal space after e = record {
   zeroed = λ z. e ∙ ap (λ (b : Bool). cond b (replicate (length space) 0) space) (eq-eqb refusal 0 z);
 }
 
-module _ {arena out wide narrow : List ℕ} {r : Finished} {out' wide' narrow' : List ℕ} (P : FinishPost arena out wide narrow r out' wide' narrow') where
-  number_is : finished_number r ≡ finish_refusal arena (length out) (length wide) (length narrow)
-  number_is = ap finished_number P.answer ∙ finish_number arena (length out) (length wide) (length narrow)
+module _ {arena out wide narrow : List ℕ} {r : Result ℕ Refusal} {out' wide' narrow' : List ℕ} (P : FinishPost arena out wide narrow r out' wide' narrow') where
+  number_is : number_of r ≡ finish_refusal arena (length out) (length wide) (length narrow)
+  number_is = ap number_of P.answer ∙ finish_number arena (length out) (length wide) (length narrow)
 
   out_kept : (finish_refusal arena (length out) (length wide) (length narrow) ≡ 0 → ⊥) → out' ≡ out
   unfolding out_after
@@ -59,7 +60,7 @@ module _ {arena out wide narrow : List ℕ} {r : Finished} {out' wide' narrow' :
 
   pub finish_refusals : FinishRefused arena out wide narrow r out' wide' narrow'
   finish_refusals =
-      let given = ap finished_number P.answer in
+      let given = ap number_of P.answer in
       record {
         finish_refused = λ n l e. (cause_first arena (length out) (length wide) (length narrow) n l (sym given ∙ e), out_kept (λ z. omega (arith, number_is)));
         refused_finish = λ n f. given ∙ cause_given arena (length out) (length wide) (length narrow) n f;
@@ -84,16 +85,16 @@ get_refusals body key = record {
   unopened_unfound = λ size limit. open_get body size key limit;
 }
 
-build_refusals : {hashes wide narrow out : List ℕ} {r : Built} {hashes' wide' narrow' out' : List ℕ}
+build_refusals : {hashes wide narrow out : List ℕ} {r : Result Built Refusal} {hashes' wide' narrow' out' : List ℕ}
     → BuildPost hashes wide narrow out r hashes' wide' narrow' out' → BuildRefused hashes wide narrow out r hashes' wide' narrow' out'
 build_refusals {hashes} {wide} {narrow} {out} {r} P = record {
   build_refused = λ n l e.
       let a = sym P.answer ∙ number_refuses r n l e in (
         refused_cause P n l e,
-        P.hashes_after ∙ ap (λ (b : Built). hashes_by b hashes) a,
-        P.wide_after ∙ ap (λ (b : Built). space_by b wide) a,
-        P.narrow_after ∙ ap (λ (b : Built). space_by b narrow) a,
-        P.out_after_is ∙ ap (λ (b : Built). out_by b (sorted hashes) out) a,
+        P.hashes_after ∙ ap (λ (b : Result Built Refusal). hashes_by b hashes) a,
+        P.wide_after ∙ ap (λ (b : Result Built Refusal). space_by b wide) a,
+        P.narrow_after ∙ ap (λ (b : Result Built Refusal). space_by b narrow) a,
+        P.out_after_is ∙ ap (λ (b : Result Built Refusal). out_by b (sorted hashes) out) a,
       );
   refused_build = cause_refused P;
 }

@@ -1,10 +1,10 @@
 -- Taken lists, and that no call adds versions oldest first, from the theorems of builder. Assumes nothing.
+use Rattle.numbers.specs.Numbers.{number_of}
 use Prim.Native.Nat.{ℕ}
 use mathlib.Core.Path.{sym, ap, ◌∙◌}
 use mathlib.Core.List.{List}
 use Rattle.records.specs.Model.{Entry}
 use Rattle.builder.specs.declared.PointBuilder.{PointBuilder}
-use Rattle.builder.specs.Add.{added_number}
 use Rattle.builder.specs.Taken.{TakenList}
 use Rattle.builder.proofs.TakenTheorems.{taken_facts, taken_keys}
 use Rattle.builder.proofs.TakenExists.{rules_taken}
@@ -23,11 +23,11 @@ taken_lists = record { list_taken = rules_taken; taken_kept = taken_kept; list_g
 pub never_oldest_first : NeverOldestFirst
 never_oldest_first = record {
   added_older = λ {s} {buffer} {list} {call} t P z.
-      oldest.added_older buffer call t (ap added_number (sym P.answer) ∙ z);
+      oldest.added_older buffer call t (ap number_of (sym P.answer) ∙ z);
   never_oldest_first = λ {s} {buffer} front before last {call} t h P.
       let n = oldest.never_oldest_first front before last call t h in
-      (λ z. n.0 (ap added_number (sym P.answer) ∙ z), P.buffer ∙ n.1);
+      (λ z. n.0 (ap number_of (sym P.answer) ∙ z), P.buffer ∙ n.1);
   oldest_first_four = λ {s} {buffer} front before last {call} t h small empty P.
       let f = oldest.oldest_first_four front before last call t h small empty in
-      (ap added_number (P.answer ∙ f.0), P.buffer ∙ f.1);
+      (ap number_of (P.answer ∙ f.0), P.buffer ∙ f.1);
 }

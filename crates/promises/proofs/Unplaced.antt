@@ -1,4 +1,8 @@
 -- A taken list that no attempt places: its two keys' hashes are computed equal in mixrule. Assumes nothing.
+use Rattle.std.specs.Prelude.{Result}
+use Rattle.numbers.specs.Numbers.{number_of}
+use Rattle.numbers.specs.declared.Refusal.{Refusal}
+use Rattle.std.specs.Prelude.{None}
 use Prim.Native.Nat.{ℕ, ◌+◌, ◌≤◌, ◌<◌}
 use native.Mathlib.Omega.{arith}
 use mathlib.Core.Path.{◌≡◌, refl, sym, ap, ◌∙◌, subst}
@@ -12,7 +16,6 @@ use Rattle.words.proofs.Laws.{bytes_tested}
 use Rattle.words.specs.Field.{AllBytes}
 use Rattle.mixing.specs.Mixing.{hash_of, bucket_of, seed_of}
 use Rattle.mixing.specs.Example.{equal_pair}
-use Rattle.records.specs.declared.DataLength.TheVariants.{Untested}
 use Rattle.records.specs.Model.{version_bytes, versions_bytes, entry_bytes, table_bytes}
 use Rattle.records.specs.Places.{key_at, record_at, versions_from, entry_at, entries_from, entry_place}
 use Rattle.records.specs.Rules.{unslotted, key_rises, key_refusal, sequence_falls, version_refusal, versions_refusal, entry_refusal}
@@ -25,9 +28,8 @@ use Rattle.builder.proofs.TakenTheorems.{taken_state}
 use Rattle.construct.specs.Construct.{buckets_of}
 use Rattle.construct.specs.Keys.{hashes_of, attempt_hashes}
 use Rattle.construct.specs.Promised.{AttemptFails}
-use Rattle.finish.specs.declared.Finished.{Finished}
 use Rattle.finish.specs.Body.{arena_start}
-use Rattle.finish.specs.Finish.{walked, keys_of, FinishPost, finished_number}
+use Rattle.finish.specs.Finish.{walked, keys_of, FinishPost}
 use Rattle.builder.proofs.TakenExists.{rules_taken}
 use Rattle.promises.specs.Finished.{RoomOf, RoomFor}
 use Rattle.promises.specs.Unplaced.{one_key, other_key, pair_table, pair_arena, Unplaced}
@@ -49,9 +51,9 @@ pair_entries : entries_from pair_arena 0 (keys_of pair_arena) ≡ pair_table
 unfolding pair_arena pair_table table_bytes entry_bytes versions_bytes version_bytes bytes_of le spelled key_at entries_from entry_at versions_from record_at
 pair_entries = rw pair_keys
 
-pair_rules : TableRules Untested pair_table
+pair_rules : TableRules None pair_table
 unfolding walked
-pair_rules = subst (TableRules Untested) pair_entries (read_back unslotted pair_arena Untested 0 0 (length pair_arena) pair_bytes (omega arith)).rules
+pair_rules = subst (TableRules None) pair_entries (read_back unslotted pair_arena None 0 0 (length pair_arena) pair_bytes (omega arith)).rules
 
 pair_key_bytes : Each KeyBytes pair_table
 unfolding pair_table
@@ -88,8 +90,8 @@ pair_length : arena_start (length pair_table) + length pair_arena ≡ 150
 unfolding arena_start buckets_of pair_arena pair_table table_bytes entry_bytes versions_bytes version_bytes bytes_of
 pair_length = refl
 
-ten_given : {s : PointBuilder} {buffer out wide narrow out' wide' narrow' : List ℕ} {r : Finished} → TakenList s buffer pair_table → RoomOf 150 4 24 (length out) (length wide) (length narrow)
-    → FinishPost (take s.used buffer) out wide narrow r out' wide' narrow' → finished_number r ≡ 10
+ten_given : {s : PointBuilder} {buffer out wide narrow out' wide' narrow' : List ℕ} {r : Result ℕ Refusal} → TakenList s buffer pair_table → RoomOf 150 4 24 (length out) (length wide) (length narrow)
+    → FinishPost (take s.used buffer) out wide narrow r out' wide' narrow' → number_of r ≡ 10
 unfolding pair_arena pair_table
 ten_given {s} {buffer} {out} {wide} {narrow} t R P =
     let used : take s.used buffer ≡ pair_arena = (taken_kept t).facts.bytes in

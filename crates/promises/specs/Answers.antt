@@ -1,19 +1,21 @@
 -- The last paragraph of document 01: the number and values of each answer that is an enum, in its cases that are no refusal; and that there is
 -- no other number. What each number above 0 is given for stands in `Refused`. A record for each answer; `Answers` says that all hold.
+use Rattle.std.specs.Prelude.{Err, Option, Result}
+use Rattle.numbers.specs.Numbers.{number_of}
+use Rattle.numbers.specs.declared.Refusal.{Refusal}
 use Rattle.std.specs.Prelude.{ℕ, ◌+◌, ◌^◌, ◌<◌, ◌≤◌, ◌≡◌, true, cond, List, [], ◌∷◌, ◌++◌, ◌⊎◌, length, take}
 use Rattle.std.proofs.Math.Option.{none, some}
 use Rattle.laws.specs.Refusals.{First, None}
 use Rattle.words.specs.Field.{splice}
-use Rattle.records.specs.declared.Limit.{Limit}
+use Rattle.records.specs.Limits.{Limit}
 use Rattle.records.specs.declared.Record.{Record}
 use Rattle.records.specs.Model.{kind_byte}
 use Rattle.records.specs.Places.{first_version, version_count}
 use Rattle.builder.specs.declared.PointBuilder.{PointBuilder}
-use Rattle.builder.specs.Add.{Call, add_causes, add_of, added_number, state_values, added_values, next_state, next_place}
-use Rattle.construct.specs.declared.Constructed.{Constructed}
+use Rattle.builder.specs.Add.{Call, add_causes, add_of, state_values, added_values, next_state, next_place}
 use Rattle.construct.specs.Construct.{Placing, attempt_of, construct_of}
 use Rattle.construct.specs.Answer.{constructed_number, constructed_values, ConstructPost}
-use Rattle.finish.specs.Finish.{keys_of, body_length, finish_of, finished_number, finished_values}
+use Rattle.finish.specs.Finish.{keys_of, body_length, finish_of, finished_values}
 use Rattle.point.specs.declared.Located.{Located}
 use Rattle.point.specs.declared.Opened.{Opened}
 use Rattle.point.specs.declared.Answer.TheVariants.{Found, Nothing}
@@ -23,28 +25,25 @@ use Rattle.fuse.specs.declared.Sizes.{Sizes}
 use Rattle.fuse.specs.Layout.{positive_bytes, fuse_header, Accepted}
 use Rattle.fuse.specs.Asking.{contains_of}
 use Rattle.filter.specs.declared.SstFilter.{SstFilter}
-use Rattle.filter.specs.declared.Written.{Written}
 use Rattle.filter.specs.declared.Built.{Built}
-use Rattle.filter.specs.declared.Built.TheVariants.{Refused}
 use Rattle.filter.specs.Reading.{read_of, read_refusal, read_values, acceptable}
 use Rattle.filter.specs.Asking.{ask_of, ask_number}
-use Rattle.filter.specs.Writing.{bytes_for, write_refusal, written_values, WritePost}
-use Rattle.filter.specs.Building.{built_refusal, length_by, built_values, BuildPost}
-use Rattle.lines.specs.declared.Listed.{Listed}
+use Rattle.filter.specs.Writing.{bytes_for, written_values, WritePost}
+use Rattle.filter.specs.Building.{length_by, built_values, BuildPost}
 use Rattle.lines.specs.Shown.{Rule}
-use Rattle.lines.specs.Listing.{text_of, listed_number, listed_values, Listing}
+use Rattle.lines.specs.Listing.{text_of, listed_values, Listing}
 
 -- builder::Added: 0, the next state's words and the patch place; a refusal has no values
 pub record AddAnswers (s : PointBuilder) (buffer : List ℕ) (call : Call) : Type 0 where
   pub add_values : None (add_causes s buffer call)
-      → (added_number (add_of s buffer call) ≡ 0)
+      → (number_of (add_of s buffer call) ≡ 0)
       × (state_values (add_of s buffer call) ≡ (next_state s call).used ∷ (next_state s call).keys ∷ (next_state s call).head ∷ [])
       × (added_values (add_of s buffer call) ≡ next_place s call ∷ [])
   pub add_refused_values : (n : ℕ) → First n (add_causes s buffer call)
       → (state_values (add_of s buffer call) ≡ []) × (added_values (add_of s buffer call) ≡ [])
 
 -- construct::Constructed: 0 and the attempt, or 10
-pub record ConstructAnswers (hashes : ℕ → List ℕ) (r : Constructed) : Type 0 where
+pub record ConstructAnswers (hashes : ℕ → List ℕ) (r : Option ℕ) : Type 0 where
   pub construct_values : (i : ℕ) (pl : Placing) → construct_of hashes ≡ some (i, pl) → (constructed_number r ≡ 0) × (constructed_values r ≡ i ∷ [])
   pub construct_refused_values : constructed_number r ≡ 10 → constructed_values r ≡ []
   pub ten_fails : constructed_number r ≡ 10 → (i : ℕ) → i < 8 → attempt_of (hashes i) ≡ none
@@ -80,24 +79,24 @@ pub record GetAnswers (body : List ℕ) (size : ℕ) (key : List ℕ) (limit : L
   pub get_numbers : (answer_number (get_of body size key limit) ≡ 0) ⊎ ((answer_number (get_of body size key limit) ≡ 1) ⊎ (answer_number (get_of body size key limit) ≡ 14))
 
 -- filter::Written: 0 and the bytes written, exactly where reading accepts the filter and there is room
-pub record WriteAnswers (f : SstFilter) (cells out : List ℕ) (r : Written) (after : List ℕ) : Type 0 where
+pub record WriteAnswers (f : SstFilter) (cells out : List ℕ) (r : Result ℕ Refusal) (after : List ℕ) : Type 0 where
   pub whole_written : acceptable f (length cells) ≡ true → 48 + length cells ≤ length out
-      → (write_refusal r ≡ 0) × (written_values r ≡ (48 + length cells) ∷ []) × (after ≡ splice out 0 (bytes_for f cells))
-  pub written_whole : write_refusal r ≡ 0 → (acceptable f (length cells) ≡ true) × (48 + length cells ≤ length out)
-  pub refused_unwritten : (w : Written) → 0 < write_refusal w → written_values w ≡ []
+      → (number_of r ≡ 0) × (written_values r ≡ (48 + length cells) ∷ []) × (after ≡ splice out 0 (bytes_for f cells))
+  pub written_whole : number_of r ≡ 0 → (acceptable f (length cells) ≡ true) × (48 + length cells ≤ length out)
+  pub refused_unwritten : (w : Result ℕ Refusal) → 0 < number_of w → written_values w ≡ []
 
 -- filter::Built: 0 and the bytes written (and `Filter`)
-pub record BuildAnswers (r : Built) (out' : List ℕ) : Type 0 where
-  pub zero_accepts : built_refusal r ≡ 0 → (q : ℕ) → r ≡ Refused q → ⊥
-  pub built_values_is : ((q : ℕ) → r ≡ Refused q → ⊥) → built_values r ≡ length (take (length_by r) out') ∷ []
+pub record BuildAnswers (r : Result Built Refusal) (out' : List ℕ) : Type 0 where
+  pub zero_accepts : number_of r ≡ 0 → (q : Refusal) → r ≡ Err q → ⊥
+  pub built_values_is : ((q : Refusal) → r ≡ Err q → ⊥) → built_values r ≡ length (take (length_by r) out') ∷ []
 
 -- every answer
 pub record Answers : Type 0 where
   pub add : (s : PointBuilder) (buffer : List ℕ) (call : Call) → AddAnswers s buffer call
-  pub construct : {hashes : ℕ → List ℕ} {n : ℕ} {wide narrow : List ℕ} {r : Constructed} → ConstructPost hashes n wide narrow r → ConstructAnswers hashes r
+  pub construct : {hashes : ℕ → List ℕ} {n : ℕ} {wide narrow : List ℕ} {r : Option ℕ} → ConstructPost hashes n wide narrow r → ConstructAnswers hashes r
   -- finish::Finished: 0 and the body's length
   pub finish_values : (arena : List ℕ) (out wide narrow : ℕ)
-      → finished_number (finish_of arena out wide narrow) ≡ 0 → finished_values (finish_of arena out wide narrow) ≡ body_length arena (keys_of arena) ∷ []
+      → number_of (finish_of arena out wide narrow) ≡ 0 → finished_values (finish_of arena out wide narrow) ≡ body_length arena (keys_of arena) ∷ []
   pub locating : (body key : List ℕ) → LocateAnswers body key
   pub opening : (body key : List ℕ) → OpenAnswers body key
   pub opening_record : (body key : List ℕ) (p : ℕ) → RecordAnswers body key p
@@ -111,9 +110,9 @@ pub record Answers : Type 0 where
   pub positive_number : (hash : ℕ) → ask_number (ask_of positive_bytes hash) ≡ 1
   pub fuse_number : (s : Sizes) (cells : List ℕ) → Accepted s (length cells) → s.seed < 2 ^ 64 → (hash : ℕ)
       → ask_number (ask_of (fuse_header s ++ cells) hash) ≡ cond (contains_of cells s hash) 1 0
-  pub write : {f : SstFilter} {cells out : List ℕ} {r : Written} {after : List ℕ} → WritePost f cells out r after → WriteAnswers f cells out r after
-  pub build : {hashes wide narrow out : List ℕ} {r : Built} {hashes' wide' narrow' out' : List ℕ}
+  pub write : {f : SstFilter} {cells out : List ℕ} {r : Result ℕ Refusal} {after : List ℕ} → WritePost f cells out r after → WriteAnswers f cells out r after
+  pub build : {hashes wide narrow out : List ℕ} {r : Result Built Refusal} {hashes' wide' narrow' out' : List ℕ}
       → BuildPost hashes wide narrow out r hashes' wide' narrow' out' → BuildAnswers r out'
   -- lines::Listed: 0 and the text's length, where there is room
-  pub room_values : {rule : Rule} {input before : List ℕ} {r : Listed} {after : List ℕ} → Listing rule input before r after → length (text_of rule input) ≤ length before
-      → (listed_number r ≡ 0) × (listed_values r ≡ length (text_of rule input) ∷ []) × (after ≡ splice before 0 (text_of rule input))
+  pub room_values : {rule : Rule} {input before : List ℕ} {r : Result ℕ Refusal} {after : List ℕ} → Listing rule input before r after → length (text_of rule input) ≤ length before
+      → (number_of r ≡ 0) × (listed_values r ≡ length (text_of rule input) ∷ []) × (after ≡ splice before 0 (text_of rule input))

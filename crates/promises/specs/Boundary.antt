@@ -1,13 +1,10 @@
 -- Demand 1 at the C boundary: its own refusals 6, 1 and 28, each exactly for its cause and before the call's own, and what a refused call leaves.
 -- A record for each call; `BoundaryRefusals` says that all hold.
+use Rattle.numbers.specs.Numbers.{number_of}
 use Rattle.std.specs.Prelude.{ℕ, ◌<◌, ◌≤◌, ◌≡◌, List, ◌⊎◌, length, replicate}
-use Rattle.builder.specs.Add.{added_number}
-use Rattle.builder.specs.SetOffset.{set_of, set_number}
-use Rattle.finish.specs.Finish.{finished_number}
+use Rattle.builder.specs.SetOffset.{set_of}
 use Rattle.point.specs.Get.{answer_number}
 use Rattle.filter.specs.Reading.{read_of, read_refusal}
-use Rattle.filter.specs.Building.{built_refusal}
-use Rattle.lines.specs.Listing.{listed_number}
 use Rattle.kiban_c.specs.Lent.{SixFirst}
 use Rattle.kiban_c.specs.SortCalls.{SortCall}
 use Rattle.kiban_c.specs.BuilderCalls.{state_of, add_called, AddCall, SetOffsetCall}
@@ -22,18 +19,18 @@ pub record AddChecked (buffer state key : List ℕ) (kind size sequence new_key 
   pub add_state_short : 1 ≤ length answer → length state < 3 → r ≡ 1
   pub add_kind_other : 1 ≤ length answer → 3 ≤ length state → (kind ≡ 1 → ⊥) → (kind ≡ 2 → ⊥) → r ≡ 28
   pub add_kind_only : r ≡ 28 → (1 ≤ length answer) × (3 ≤ length state) × (kind ≡ 1 → ⊥) × (kind ≡ 2 → ⊥)
-  pub add_own : 1 ≤ length answer → 3 ≤ length state → (kind ≡ 1) ⊎ (kind ≡ 2) → r ≡ added_number (add_called buffer state key kind size sequence new_key)
+  pub add_own : 1 ≤ length answer → 3 ≤ length state → (kind ≡ 1) ⊎ (kind ≡ 2) → r ≡ number_of (add_called buffer state key kind size sequence new_key)
   pub add_refused_leaves : 0 < r → (buffer' ≡ buffer) × (state' ≡ state) × (answer' ≡ answer)
 
 -- kiban_set_offset: 1, and then set offset's own
 pub record SetOffsetChecked (buffer state : List ℕ) (place offset r : ℕ) (buffer' : List ℕ) : Type 0 where
   pub set_offset_state_short : length state < 3 → r ≡ 1
-  pub set_offset_own : 3 ≤ length state → r ≡ set_number (set_of (state_of state) buffer place)
+  pub set_offset_own : 3 ≤ length state → r ≡ number_of (set_of (state_of state) buffer place)
   pub set_offset_refused_leaves : 0 < r → buffer' ≡ buffer
 
 -- kiban_finish: 6, and then finish's own; the workspace is as it was, or zero
 pub record FinishChecked (arena out wide narrow answer : List ℕ) (r : ℕ) (out' wide' narrow' answer' : List ℕ) : Type 0 where
-  pub finish_answer_short : SixFirst answer 1 (finished_number (finish_called arena out wide narrow)) r
+  pub finish_answer_short : SixFirst answer 1 (number_of (finish_called arena out wide narrow)) r
   pub finish_refused_leaves : 0 < r → (out' ≡ out) × (answer' ≡ answer) × ((wide' ≡ wide) ⊎ (wide' ≡ replicate (length wide) 0)) × ((narrow' ≡ narrow) ⊎ (narrow' ≡ replicate (length narrow) 0))
 
 -- kiban_get: 6, and then get's own; nothing found leaves the answer too
@@ -44,7 +41,7 @@ pub record GetChecked (body bytes key : List ℕ) (limited limit : ℕ) (answer 
 
 -- kiban_filter_build: 6, and then build's own
 pub record FilterBuildChecked (hashes wide narrow out answer : List ℕ) (r : ℕ) (hashes' wide' narrow' out' answer' : List ℕ) : Type 0 where
-  pub filter_build_answer_short : SixFirst answer 1 (built_refusal (build_called hashes wide narrow out)) r
+  pub filter_build_answer_short : SixFirst answer 1 (number_of (build_called hashes wide narrow out)) r
   pub filter_build_refused_leaves : 0 < r → (hashes' ≡ hashes) × (wide' ≡ wide) × (narrow' ≡ narrow) × (out' ≡ out) × (answer' ≡ answer)
 
 -- kiban_filter_read: 6, and then reading's own
@@ -61,7 +58,7 @@ pub record FilterAskAllChecked (bytes hashes answers : List ℕ) (r : ℕ) (answ
 
 -- kiban_listing: 6, and then the listing's own
 pub record ListingChecked (input out answer : List ℕ) (r : ℕ) (out' answer' : List ℕ) : Type 0 where
-  pub listing_answer_short : SixFirst answer 1 (listed_number (listing_called input out)) r
+  pub listing_answer_short : SixFirst answer 1 (number_of (listing_called input out)) r
   pub listing_refused_leaves : 0 < r → (out' ≡ out) × (answer' ≡ answer)
 
 -- DEMAND 1, of each function of the C boundary

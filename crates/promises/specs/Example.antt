@@ -1,9 +1,11 @@
 -- Document 01's example, keys A, B and C, with no hypothesis: the builder takes the list, attempt 0 places its keys, finish answers a body of 204
 -- bytes and which bytes, validation accepts it for data of 116 bytes, get reads it like the list, and its listing at limit 8 is the two lines.
+use Rattle.std.specs.Prelude.{Ok, Result}
+use Rattle.numbers.specs.declared.Refusal.{Refusal}
 use Rattle.std.specs.Prelude.{ℕ, ◌≤◌, ◌≡◌, List, [], ◌∷◌, ◌++◌, length, take}
 use Rattle.std.proofs.Math.Option.{some}
 use Rattle.words.specs.Field.{bytes_of}
-use Rattle.records.specs.declared.Limit.{Limit}
+use Rattle.records.specs.Limits.{Limit}
 use Rattle.records.specs.Example.{example_table, example_arena}
 use Rattle.records.specs.Model.{lookup}
 use Rattle.builder.specs.declared.PointBuilder.{PointBuilder}
@@ -12,9 +14,6 @@ use Rattle.construct.specs.Construct.{Placing}
 use Rattle.point.specs.Get.{get_of}
 use Rattle.point.specs.Table.{table_of, answer_to}
 use Rattle.point.specs.Validate.{validate_of}
-use Rattle.point.specs.declared.Validated.TheVariants.{Accepted}
-use Rattle.finish.specs.declared.Finished.{Finished}
-use Rattle.finish.specs.declared.Finished.TheVariants.{Body}
 use Rattle.finish.specs.Body.{placed_of, body_of}
 use Rattle.finish.specs.Finish.{keys_of, finish_of, FinishPost}
 use Rattle.lines.specs.Shown.{newest_tombstone}
@@ -65,14 +64,14 @@ pub record Example : Type 0 where
   -- attempt 0 is taken, with pilot 2
   pub example_placed : placed_of example_arena 3 ≡ some (0, example_placing)
   -- finish answers a body of 204 bytes, given room for it, 6 words of 64 bits and 32 of 32 bits; exactly that much is enough
-  pub example_finished : (out wide narrow : ℕ) → 204 ≤ out → 6 ≤ wide → 32 ≤ narrow → finish_of example_arena out wide narrow ≡ Body 204
-  pub example_fits : finish_of example_arena 204 6 32 ≡ Body 204
+  pub example_finished : (out wide narrow : ℕ) → 204 ≤ out → 6 ≤ wide → 32 ≤ narrow → finish_of example_arena out wide narrow ≡ Ok 204
+  pub example_fits : finish_of example_arena 204 6 32 ≡ Ok 204
   -- its bytes; and whatever meets finish's contract, with that room, answers the body and leaves it in front of the output
   pub example_body_is : body_of example_arena (keys_of example_arena) ≡ example_body
-  pub example_output : {out wide narrow out' wide' narrow' : List ℕ} {r : Finished} → RoomOf 204 6 32 (length out) (length wide) (length narrow) → FinishPost example_arena out wide narrow r out' wide' narrow'
-      → (r ≡ Body 204) × (take 204 out' ≡ example_body)
+  pub example_output : {out wide narrow out' wide' narrow' : List ℕ} {r : Result ℕ Refusal} → RoomOf 204 6 32 (length out) (length wide) (length narrow) → FinishPost example_arena out wide narrow r out' wide' narrow'
+      → (r ≡ Ok 204) × (take 204 out' ≡ example_body)
   -- validation accepts it for data of 116 bytes, its table is the list, and get on it is the lookup in the list
-  pub example_accepted : validate_of example_body 116 ≡ Accepted
+  pub example_accepted : validate_of example_body 116 ≡ Ok (record {})
   pub example_table_is : table_of example_body ≡ example_table
   pub example_read : (key : List ℕ) (limit : Limit) → get_of example_body 116 key limit ≡ answer_to (lookup example_table key limit)
   -- the whole output of its listing

@@ -1,10 +1,10 @@
 -- The figures at the edges of document 01, P1 to P9, as one table over the written rules.
+use Rattle.std.specs.Prelude.{Ok}
 use Rattle.std.specs.Prelude.{ℕ, ◌-◌, ◌^◌, ◌≡◌, List, [], ◌∷◌, length}
 use Rattle.layout.specs.Layout.{arena_in}
 use Rattle.records.specs.Example.{example_arena}
 use Rattle.construct.specs.Construct.{buckets_of}
 use Rattle.point.specs.Table.{key_place}
-use Rattle.finish.specs.declared.Finished.TheVariants.{Body}
 use Rattle.finish.specs.Body.{arena_start}
 use Rattle.finish.specs.Finish.{keys_of, finish_of}
 use Rattle.fuse.specs.Positions.{positions_of}
@@ -27,7 +27,7 @@ pub record Figures : Type 0 where
   pub P1 : buckets_of 1 ∷ buckets_of 3 ∷ buckets_of 4 ∷ [] ≡ 1 ∷ 1 ∷ 2 ∷ []
   pub P2 : arena_start 1 ∷ arena_start 3 ∷ [] ≡ 48 ∷ 72 ∷ []
   pub P3_keys : keys_of example_arena ≡ 3
-  pub P3_finished : finish_of example_arena 204 6 32 ≡ Body 204
+  pub P3_finished : finish_of example_arena 204 6 32 ≡ Ok 204
   pub P3_body : length example_body ≡ 204
   pub P3_records : record_places example_body ≡ 0 ∷ 51 ∷ 102 ∷ []
   pub P4_one : filter_size 1 ≡ 1 ∷ 14 ∷ 14 ∷ []

@@ -1,5 +1,8 @@
 -- Demand 3, "a filter built from a set of hashes never calls one of them absent", at the C boundary too; and document 01's bound on the queue, its
 -- rule over the sizing table, and that accepted bytes written again are the same bytes.
+use Rattle.std.specs.Prelude.{Ok, Result}
+use Rattle.numbers.specs.Numbers.{number_of}
+use Rattle.numbers.specs.declared.Refusal.{Refusal}
 use Rattle.std.specs.Prelude.{ℕ, ◌+◌, ◌*◌, ◌^◌, ◌≤◌, ◌<◌, ◌≡◌, true, List, [], ◌∷◌, length, take, drop, get_or}
 use Rattle.laws.specs.Count.{occurs}
 use Rattle.words.specs.Field.{splice}
@@ -12,20 +15,18 @@ use Rattle.sort.specs.Sort.{sorted}
 use Rattle.peel.specs.Peel.{Attempt, after_steps}
 use Rattle.filter.specs.declared.SstFilter.{SstFilter}
 use Rattle.filter.specs.declared.SstFilter.TheVariants.{Refused}
-use Rattle.filter.specs.declared.Written.{Written}
-use Rattle.filter.specs.declared.Written.TheVariants.{Length}
 use Rattle.filter.specs.declared.Built.{Built}
 use Rattle.filter.specs.declared.Built.TheVariants.{Fuse}
 use Rattle.filter.specs.Reading.{read_of}
 use Rattle.filter.specs.Asking.{ask_of, ask_number}
 use Rattle.filter.specs.Writing.{bytes_for, WritePost}
-use Rattle.filter.specs.Building.{built_refusal, length_by, built_values, BuildPost, as_read}
+use Rattle.filter.specs.Building.{length_by, built_values, BuildPost, as_read}
 use Rattle.kiban_c.specs.FilterCalls.{FilterBuildCall, filter_ask_of, FilterAskAllCall}
 
 -- ---- build
 
 -- the written bytes of an answer, in front of the output
-abbrev pub filter_bytes : Built → (out : List ℕ) → List ℕ
+abbrev pub filter_bytes : Result Built Refusal → (out : List ℕ) → List ℕ
 filter_bytes r out = take (length_by r) out
 
 -- sizes for these hashes: as many keys, the segment and count of the sizing rule (3 segments more than the count), 40 × cells ≥ 43 × hashes
@@ -37,17 +38,17 @@ pub record SizedFor (hashes : List ℕ) (s : Sizes) : Type 0 where
 
 -- what stands in the output for the hashes: as many bytes as the answer says, read as what was built, with the right sizes; and each of the
 -- hashes is maybe there (1)
-pub record FilterStands (hashes : List ℕ) (r : Built) (out : List ℕ) : Type 0 where
+pub record FilterStands (hashes : List ℕ) (r : Result Built Refusal) (out : List ℕ) : Type 0 where
   pub values : built_values r ≡ length (filter_bytes r out) ∷ []
   pub read : read_of (filter_bytes r out) ≡ as_read r
-  pub sized : (s : Sizes) → r ≡ Fuse s → SizedFor hashes s
+  pub sized : (s : Sizes) → r ≡ Ok (Fuse s) → SizedFor hashes s
   pub present : (hash : ℕ) → 1 ≤ occurs hash hashes → ask_number (ask_of (filter_bytes r out) hash) ≡ 1
 
 -- DEMAND 3, of a filter
 pub record OnFilter : Type 0 where
   -- whatever meets build's contract with the number 0 stands for its hashes
-  pub filter_stands : {hashes wide narrow out : List ℕ} {r : Built} {hashes' wide' narrow' out' : List ℕ} → BuildPost hashes wide narrow out r hashes' wide' narrow' out'
-      → built_refusal r ≡ 0 → FilterStands hashes r out'
+  pub filter_stands : {hashes wide narrow out : List ℕ} {r : Result Built Refusal} {hashes' wide' narrow' out' : List ℕ} → BuildPost hashes wide narrow out r hashes' wide' narrow' out'
+      → number_of r ≡ 0 → FilterStands hashes r out'
   -- where kiban_filter_build returns 0, kiban_filter_ask on the first answer[0] bytes returns 1 for each of the hashes
   pub call_present : {hashes wide narrow out answer hashes' wide' narrow' out' answer' : List ℕ}
       → FilterBuildCall hashes wide narrow out answer 0 hashes' wide' narrow' out' answer'
@@ -96,5 +97,5 @@ pub record FilterRules : Type 0 where
   -- accepted bytes written again are the same bytes: as they are put together, and as write puts them
   pub same_again : (bytes : List ℕ) (filter : SstFilter) → read_of bytes ≡ filter → (filter ≡ Refused → ⊥) → bytes_for filter (drop 48 bytes) ≡ bytes
   pub written_again : (bytes : List ℕ) (filter : SstFilter) → read_of bytes ≡ filter → (filter ≡ Refused → ⊥)
-      → (out after : List ℕ) (r : Written) → length bytes ≤ length out → WritePost filter (drop 48 bytes) out r after
-      → (r ≡ Length (length bytes)) × (after ≡ splice out 0 bytes)
+      → (out after : List ℕ) (r : Result ℕ Refusal) → length bytes ≤ length out → WritePost filter (drop 48 bytes) out r after
+      → (r ≡ Ok (length bytes)) × (after ≡ splice out 0 bytes)

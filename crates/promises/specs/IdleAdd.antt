@@ -1,9 +1,9 @@
 -- An idle add is shut out: the first key into an empty builder fixes the next state, the place and every byte of the buffer.
+use Rattle.std.specs.Prelude.{Ok}
 use Rattle.std.specs.Prelude.{ℕ, ◌≡◌, true, List, [], ◌∷◌, replicate}
 use Rattle.records.specs.declared.Kind.TheVariants.{Put}
 use Rattle.builder.specs.declared.PointBuilder.{PointBuilder}
-use Rattle.builder.specs.declared.Added.{Added}
-use Rattle.builder.specs.declared.Added.TheVariants.{Taken}
+use Rattle.builder.specs.Add.{Added}
 use Rattle.builder.specs.State.{empty_builder}
 use Rattle.builder.specs.Add.{AddPost}
 
@@ -27,10 +27,10 @@ first_buffer =
 
 pub record IdleAdd : Type 0 where
   -- the answer is that state and the place 22
-  pub first_answer : {r : Added} {after : List ℕ} → FirstAdd r after → r ≡ Taken first_state 22
+  pub first_answer : {r : Added} {after : List ℕ} → FirstAdd r after → r ≡ Ok (first_state, 22)
   -- the buffer is the key's entry, byte for byte
   pub first_buffer_is : {r : Added} {after : List ℕ} → FirstAdd r after → after ≡ first_buffer
   -- an add that returns its state unchanged is shut out
-  pub never_unchanged : {place : ℕ} {after : List ℕ} → FirstAdd (Taken empty_builder place) after → ⊥
+  pub never_unchanged : {place : ℕ} {after : List ℕ} → FirstAdd (Ok (empty_builder, place)) after → ⊥
   -- so is one with an invented key count
-  pub never_invented : {s : PointBuilder} {place : ℕ} {after : List ℕ} → (s.keys ≡ 1 → ⊥) → FirstAdd (Taken s place) after → ⊥
+  pub never_invented : {s : PointBuilder} {place : ℕ} {after : List ℕ} → (s.keys ≡ 1 → ⊥) → FirstAdd (Ok (s, place)) after → ⊥

@@ -1,25 +1,23 @@
 -- Two results that meet a public call's contract coincide, every lent byte and word included: a sentence for each call, no exception.
+use Rattle.std.specs.Prelude.{Result}
+use Rattle.numbers.specs.declared.Refusal.{Refusal}
 use Rattle.std.specs.Prelude.{ℕ, ◌≡◌, List}
 use Rattle.mixing.specs.Mixing.{mix_of, hash_of}
-use Rattle.records.specs.declared.Limit.{Limit}
+use Rattle.records.specs.Limits.{Limit}
 use Rattle.builder.specs.declared.PointBuilder.{PointBuilder}
-use Rattle.builder.specs.declared.Added.{Added}
-use Rattle.builder.specs.declared.OffsetSet.{OffsetSet}
+use Rattle.builder.specs.Add.{Added}
 use Rattle.builder.specs.State.{empty_builder}
 use Rattle.builder.specs.Add.{Call, AddPost}
 use Rattle.builder.specs.SetOffset.{SetPost}
-use Rattle.finish.specs.declared.Finished.{Finished}
 use Rattle.finish.specs.Finish.{FinishPost}
 use Rattle.point.specs.Validate.{validate_of}
 use Rattle.point.specs.Get.{locate_of, open_record_of, open_of, get_of, ValuePost}
 use Rattle.filter.specs.declared.SstFilter.{SstFilter}
-use Rattle.filter.specs.declared.Written.{Written}
 use Rattle.filter.specs.declared.Built.{Built}
 use Rattle.filter.specs.Reading.{read_of}
 use Rattle.filter.specs.Asking.{ask_of, ask_cells_of}
 use Rattle.filter.specs.Writing.{WritePost}
 use Rattle.filter.specs.Building.{BuildPost}
-use Rattle.lines.specs.declared.Listed.{Listed}
 use Rattle.lines.specs.Shown.{Rule}
 use Rattle.lines.specs.Listing.{Listing}
 use Rattle.kiban_c.specs.SortCalls.{SortCall}
@@ -40,10 +38,10 @@ pub record Unique : Type 0 where
   -- PointBuilder::add: the answer with the next state, and the buffer
   pub add_unique : {s : PointBuilder} {before : List ℕ} {call : Call} {r q : Added} {after later : List ℕ} → AddPost s before call r after → AddPost s before call q later → (r ≡ q) × (after ≡ later)
   -- PointBuilder::set_value_offset: the answer and the buffer
-  pub set_unique : {s : PointBuilder} {before : List ℕ} {place offset : ℕ} {r q : OffsetSet} {after later : List ℕ}
+  pub set_unique : {s : PointBuilder} {before : List ℕ} {place offset : ℕ} {r q : Result (Unit {0}) Refusal} {after later : List ℕ}
       → SetPost s before place offset r after → SetPost s before place offset q later → (r ≡ q) × (after ≡ later)
   -- finish: the answer, the output and both workspaces
-  pub finish_unique : {arena out wide narrow : List ℕ} {r q : Finished} {o w n o' w' n' : List ℕ}
+  pub finish_unique : {arena out wide narrow : List ℕ} {r q : Result ℕ Refusal} {o w n o' w' n' : List ℕ}
       → FinishPost arena out wide narrow r o w n → FinishPost arena out wide narrow q o' w' n' → (r ≡ q) × (o ≡ o') × (w ≡ w') × (n ≡ n')
   -- validate: the answer
   pub validate_unique : (body : List ℕ) (size : ℕ) → OneValue (validate_of body size)
@@ -65,13 +63,13 @@ pub record Unique : Type 0 where
   -- ask_cells: the answer, from sizes and cells
   pub ask_cells_unique : (f : SstFilter) (cells : List ℕ) (hash : ℕ) → OneValue (ask_cells_of f cells hash)
   -- write: the answer and the output
-  pub write_unique : {f : SstFilter} {cells out : List ℕ} {r q : Written} {after later : List ℕ}
+  pub write_unique : {f : SstFilter} {cells out : List ℕ} {r q : Result ℕ Refusal} {after later : List ℕ}
       → WritePost f cells out r after → WritePost f cells out q later → (r ≡ q) × (after ≡ later)
   -- build: the answer, the hashes, both workspaces and the output
-  pub build_unique : {hashes wide narrow out : List ℕ} {r q : Built} {h w n o h' w' n' o' : List ℕ}
+  pub build_unique : {hashes wide narrow out : List ℕ} {r q : Result Built Refusal} {h w n o h' w' n' o' : List ℕ}
       → BuildPost hashes wide narrow out r h w n o → BuildPost hashes wide narrow out q h' w' n' o' → (r ≡ q) × (h ≡ h') × (w ≡ w') × (n ≡ n') × (o ≡ o')
   -- listing: the answer and the output
-  pub listing_unique : {rule : Rule} {input before : List ℕ} {r q : Listed} {after later : List ℕ}
+  pub listing_unique : {rule : Rule} {input before : List ℕ} {r q : Result ℕ Refusal} {after later : List ℕ}
       → Listing rule input before r after → Listing rule input before q later → (r ≡ q) × (after ≡ later)
 
 -- the functions of the C boundary: the number returned, and every lent byte and word

@@ -9,14 +9,14 @@ use lib.Dec.{eqb}
 use borrow.Author.Tests.{eq-eqb, lt-ltb}
 use Rattle.laws.specs.Each.{Each}
 use Rattle.laws.specs.Each.Each.{each_more}
-use Rattle.words.specs.declared.part.Order.TheVariants.{Less}
+use Rattle.std.specs.declared.cmp.Ordering.TheVariants.{Less}
 use Rattle.words.specs.Field.{le, bytes_of}
 use Rattle.words.specs.Part.{order_of}
 use Rattle.words.proofs.Laws.{length_bytes_of}
 use Rattle.records.specs.declared.Kind.{Kind}
 use Rattle.records.specs.declared.Kind.TheVariants.{Put, Tombstone}
 use Rattle.records.specs.declared.Record.{Record}
-use Rattle.records.specs.declared.DataLength.{DataLength}
+use Rattle.records.specs.Limits.{DataLength}
 use Rattle.records.specs.Model.{Entry, kind_byte, version_bytes, versions_bytes, entry_bytes, table_bytes, Falls, Rises}
 use Rattle.records.specs.Model.Falls.{falls_more}
 use Rattle.records.specs.Model.Rises.{rises_more}

@@ -12,7 +12,7 @@ use Rattle.laws.proofs.RefusalLaws.{none_given, none_only, first_positive}
 use Rattle.laws.specs.Refusals.{FirstOfTwo}
 use Rattle.laws.proofs.RefusalLaws.{two_given, two_only}
 use Rattle.laws.specs.Refusals.FirstOfTwo.{by_first_is, by_second}
-use Rattle.records.specs.declared.DataLength.{DataLength}
+use Rattle.records.specs.Limits.{DataLength}
 use Rattle.records.specs.Places.{version_count, first_version, next_entry}
 use Rattle.records.specs.Rules.{key_causes, key_refusal, version_causes, version_refusal, versions_refusal, entry_versions_refusal, entry_refusal}
 use Rattle.records.specs.Walk.{walk_from}

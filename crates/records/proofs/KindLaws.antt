@@ -1,4 +1,5 @@
 -- A byte as a kind: as the code reads it, as the rules test it, and as it is written. Assumes nothing.
+use Rattle.std.specs.Prelude.{None, Some}
 use Prim.Native.Nat.{ℕ}
 use native.Mathlib.Omega.{arith}
 use mathlib.Core.Path.{◌≡◌, refl, sym}
@@ -7,23 +8,22 @@ use lib.Dec.{eqb}
 use borrow.Author.Tests.{eqb-true}
 use Rattle.records.specs.declared.Kind.{Kind}
 use Rattle.records.specs.declared.Kind.TheVariants.{Put, Tombstone}
-use Rattle.records.specs.declared.KindRead.TheVariants.{Known, Unknown}
 use Rattle.records.specs.Model.{kind_byte, kind_read}
 use Rattle.records.specs.Places.{kind_of}
 use Rattle.records.specs.Rules.{bad_kind}
 
-pub kind_unknown : (b : ℕ) → kind_read b ≡ Unknown → bad_kind b ≡ true
+pub kind_unknown : (b : ℕ) → kind_read b ≡ None → bad_kind b ≡ true
 kind_unknown b e = go (eqb b 1) (eqb b 2) e
   where
-    go : (s t : Bool) → cond s (Known Put) (cond t (Known Tombstone) Unknown) ≡ Unknown → not (s || t) ≡ true
+    go : (s t : Bool) → cond s (Some Put) (cond t (Some Tombstone) None) ≡ None → not (s || t) ≡ true
     go true t q = cc
     go false true q = cc
     go false false q = refl
 
-pub kind_known : (b : ℕ) (k : Kind) → kind_read b ≡ Known k → (bad_kind b ≡ false) × (kind_of b ≡ k)
+pub kind_known : (b : ℕ) (k : Kind) → kind_read b ≡ Some k → (bad_kind b ≡ false) × (kind_of b ≡ k)
 kind_known b k e = go (eqb b 1) (eqb b 2) e
   where
-    go : (s t : Bool) → cond s (Known Put) (cond t (Known Tombstone) Unknown) ≡ Known k → (not (s || t) ≡ false) × (cond s Put Tombstone ≡ k)
+    go : (s t : Bool) → cond s (Some Put) (cond t (Some Tombstone) None) ≡ Some k → (not (s || t) ≡ false) × (cond s Put Tombstone ≡ k)
     go true t q = (refl, cc)
     go false true q = (refl, cc)
     go false false q = (cc, cc)

@@ -9,17 +9,17 @@ use native.Mathlib.Omega.{arith}
 use lib.Dec.{leb}
 use Rattle.laws.specs.Each.{Each}
 use Rattle.laws.specs.Each.Each.{each_none, each_more}
-use Rattle.words.specs.declared.part.Order.{Order}
-use Rattle.words.specs.declared.part.Order.TheVariants.{Less, Equal, Greater}
+use Rattle.std.specs.declared.cmp.Ordering.{Ordering}
+use Rattle.std.specs.declared.cmp.Ordering.TheVariants.{Less, Equal, Greater}
 use Rattle.words.specs.Part.{order_of}
 use Rattle.words.proofs.Ordered.{same_self, order_apart, order_trans}
 use Rattle.records.specs.declared.Record.{Record}
-use Rattle.records.specs.declared.Limit.{Limit}
+use Rattle.records.specs.Limits.{Limit}
 use Rattle.records.specs.declared.Within.TheVariants.{Found, Nothing, Damaged}
 use Rattle.records.specs.Model.{Entry, within, records_of, better, greatest, record_within, lookup, Falls, Rises}
 use Rattle.records.specs.Model.Falls.{falls_none, falls_more}
 use Rattle.records.specs.Model.Rises.{rises_none, rises_more}
-use Rattle.records.specs.Rules.{is_less}
+use Rattle.std.specs.Ordering.{is_lt}
 use Rattle.records.specs.Within.{found_of}
 
 pub falls_rest : (r : Record) (rs : List Record) → Falls (r ∷ rs) → Falls rs
@@ -59,7 +59,7 @@ pub own_lookup : (t : List Entry) (e : Entry) (limit : Limit) → Rises t → Me
 unfolding lookup
 own_lookup t e limit g m = ap (greatest limit) (sym (own_records t e g m))
 
-pub less_is : (o : Order) → is_less o ≡ true → o ≡ Less
+pub less_is : (o : Ordering) → is_lt o ≡ true → o ≡ Less
 less_is Less e = refl
 less_is Equal e = cc
 less_is Greater e = cc

@@ -10,8 +10,8 @@ use lib.ListN.{length, get_or}
 use lib.Dec.{eqb}
 use borrow.Author.Tests.{eqb-true, eqb-false}
 use Rattle.laws.proofs.Cases.{lt_or_ge}
-use Rattle.records.specs.declared.DataLength.{DataLength}
-use Rattle.records.specs.declared.Walked.{Walked}
+use Rattle.records.specs.Limits.{DataLength}
+use Rattle.records.specs.Walk.{Walk}
 use Rattle.records.specs.Model.{Entry}
 use Rattle.records.specs.Places.{next_entry, entry_at, entries_from, entry_place}
 use Rattle.records.specs.Rules.{entry_refusal}
@@ -29,7 +29,7 @@ pub record EnteredAt (slots : ℕ → ℕ) (bytes : List ℕ) (test : DataLength
   pub rules : Entered slots bytes test prev p
 
 -- a walk was stopped by the rule that the entry at its end breaks
-pub record Stopped (slots : ℕ → ℕ) (bytes : List ℕ) (test : DataLength) (w : Walked) : Type 0 where
+pub record Stopped (slots : ℕ → ℕ) (bytes : List ℕ) (test : DataLength) (w : Walk) : Type 0 where
   pub prev : ℕ
   pub broken : w.rule ≡ entry_refusal slots bytes test prev w.end
   pub refused : w.rule ≡ 0 → ⊥
@@ -94,10 +94,10 @@ module _ {slots : ℕ → ℕ} {bytes : List ℕ} {test : DataLength} where
 
 module _ (slots : ℕ → ℕ) (bytes : List ℕ) (test : DataLength) where
   -- the walk from the entry after the one at p, and the walk from p by whether the entry there passes
-  abbrev pub rest : (p k : ℕ) → Walked
+  abbrev pub rest : (p k : ℕ) → Walk
   rest p k = walk_from slots bytes test p (next_entry bytes p) k
 
-  abbrev pub stepped : (prev p k : ℕ) → Bool → Walked
+  abbrev pub stepped : (prev p k : ℕ) → Bool → Walk
   stepped prev p k b = cond b (passed (rest p k)) (record { keys = 0; end = p; rule = entry_refusal slots bytes test prev p })
 
   -- what the walk says it passed has passed

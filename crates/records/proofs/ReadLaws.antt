@@ -16,7 +16,7 @@ use Rattle.words.specs.Part.{order_of}
 use Rattle.words.proofs.Laws.{le_lt}
 use Rattle.words.specs.Field.{AllBytes}
 use Rattle.words.proofs.WrittenLaws.{part_rest, read_rest}
-use Rattle.records.specs.declared.DataLength.{DataLength}
+use Rattle.records.specs.Limits.{DataLength}
 use Rattle.records.specs.Model.{kind_byte, version_bytes, versions_bytes, entry_bytes, table_bytes, Falls, Rises}
 use Rattle.records.specs.Model.Falls.{falls_none, falls_one, falls_more}
 use Rattle.records.specs.Model.Rises.{rises_none, rises_one, rises_more}

@@ -14,11 +14,12 @@ use Rattle.laws.specs.Refusals.None.{none_here, none_more}
 use Rattle.laws.specs.Refusals.Numbered.{numbered_none, numbered_more}
 use Rattle.laws.proofs.RefusalLaws.{or_else_stop, or_else_zero}
 use Rattle.numbers.specs.Limits.{most_key_bytes, most_value_bytes}
-use Rattle.words.specs.declared.part.Order.{Order}
+use Rattle.std.specs.declared.cmp.Ordering.{Ordering}
 use Rattle.words.specs.Part.{order_of}
-use Rattle.records.specs.declared.DataLength.{DataLength}
+use Rattle.records.specs.Limits.{DataLength}
 use Rattle.records.specs.Places.{key_length, version_count, key_at, first_version, next_entry, sequence_at, kind_at, length_at, offset_at}
-use Rattle.records.specs.Rules.{is_less, key_rises, key_causes, key_refusal, bad_kind, past_data, full_tombstone, sequence_falls, version_causes, version_refusal, versions_refusal, entry_versions_refusal, entry_refusal}
+use Rattle.std.specs.Ordering.{is_lt}
+use Rattle.records.specs.Rules.{key_rises, key_causes, key_refusal, bad_kind, past_data, full_tombstone, sequence_falls, version_causes, version_refusal, versions_refusal, entry_versions_refusal, entry_refusal}
 
 -- two tests of one sum
 pub ltb_less : (n a b : ℕ) → a ≤ n → ltb n (a + b) ≡ ltb (n - a) b
@@ -239,13 +240,13 @@ pub key_first : (bytes : List ℕ) (prev p : ℕ) → prev ≡ p → key_rises b
 unfolding key_rises
 key_first bytes prev p e = rw (eq-eqb prev p e)
 
-pub key_next : (bytes : List ℕ) (prev p : ℕ) → (prev ≡ p → ⊥) → key_rises bytes prev p ≡ is_less (order_of (key_at bytes prev) (key_at bytes p))
+pub key_next : (bytes : List ℕ) (prev p : ℕ) → (prev ≡ p → ⊥) → key_rises bytes prev p ≡ is_lt (order_of (key_at bytes prev) (key_at bytes p))
 unfolding key_rises
 key_next bytes prev p n = rw (ne_eqb prev p n)
 
 -- two keys that are compared
-pub key_compared : (bytes : List ℕ) (prev p : ℕ) (o : Order) → (prev ≡ p → ⊥) → order_of (key_at bytes prev) (key_at bytes p) ≡ o → is_less o ≡ key_rises bytes prev p
-key_compared bytes prev p o d e = sym (key_next bytes prev p d ∙ ap is_less e)
+pub key_compared : (bytes : List ℕ) (prev p : ℕ) (o : Ordering) → (prev ≡ p → ⊥) → order_of (key_at bytes prev) (key_at bytes p) ≡ o → is_lt o ≡ key_rises bytes prev p
+key_compared bytes prev p o d e = sym (key_next bytes prev p d ∙ ap is_lt e)
 
 pub sequence_first : (bytes : List ℕ) (prev p : ℕ) → prev ≡ p → sequence_falls bytes prev p ≡ true
 unfolding sequence_falls

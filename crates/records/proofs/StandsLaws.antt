@@ -1,15 +1,15 @@
 -- Entries that stand, one at a time: keys that pass stand, and k entries are the one here and those behind it. Assumes nothing.
+use Rattle.std.specs.Prelude.{Some}
 use Prim.Native.Nat.{ℕ, suc, ◌-◌, ◌<◌}
 use native.Mathlib.Omega.{arith}
 use mathlib.Core.Path.{◌≡◌, ap}
 use mathlib.Core.List.{List, ◌∷◌}
-use Rattle.records.specs.declared.DataLength.TheVariants.{Of}
 use Rattle.records.specs.Places.{next_entry, entry_at, entries_from, entry_place}
 use Rattle.records.specs.Inner.Stands.{EntryStands, EntriesStand}
 use Rattle.records.proofs.PassedLaws.{Passed, passed_at}
 
 -- THEOREM: keys that pass in a row stand
-pub passed_stand : {slots : ℕ → ℕ} {bytes : List ℕ} {size prev p n : ℕ} → Passed slots bytes (Of size) prev p n → EntriesStand bytes p n
+pub passed_stand : {slots : ℕ → ℕ} {bytes : List ℕ} {size prev p n : ℕ} → Passed slots bytes (Some size) prev p n → EntriesStand bytes p n
 passed_stand {size = size} r =
     record { each = λ i l. let e = (passed_at i l r).rules in record { size = size; whole = e.key.whole; next = e.next; versions = e.versions } }
 

@@ -1,4 +1,5 @@
 -- The rules of tables: what keeps the rules fits its bytes; the data test put on. Assumes nothing.
+use Rattle.std.specs.Prelude.{Some}
 use Prim.Native.Nat.{ℕ, ◌+◌}
 use native.Mathlib.Omega.{arith}
 use mathlib.Core.List.{List, [], ◌∷◌}
@@ -7,8 +8,7 @@ use Rattle.laws.specs.Each.{Each}
 use Rattle.laws.proofs.EachLaws.{each_map}
 use Rattle.laws.specs.Each.Each.{each_none, each_more}
 use Rattle.records.specs.declared.Record.{Record}
-use Rattle.records.specs.declared.DataLength.{DataLength}
-use Rattle.records.specs.declared.DataLength.TheVariants.{Of}
+use Rattle.records.specs.Limits.{DataLength}
 use Rattle.records.specs.Model.{Entry}
 use Rattle.records.specs.Tables.{RecordFits, EntryFits, TableFits, RecordRules, EntryRules, TableRules, InData, EntryInData, TableInData}
 
@@ -32,13 +32,13 @@ each_two f (x ∷ xs) (each_more p ps) (each_more q qs) = each_more (f x p q) (e
 
 -- a table keeps the rules with a data test where every record lies inside the data
 module _ (test : DataLength) (size : ℕ) where
-  record_tested : (r : Record) → RecordRules test r → InData size r → RecordRules (Of size) r
+  record_tested : (r : Record) → RecordRules test r → InData size r → RecordRules (Some size) r
   record_tested r k i =
       record { fits = k.fits; small = k.small; inside = le-ltb size (r.offset + r.length) i; empty = k.empty }
 
-  entry_tested : (e : Entry) → EntryRules test e → EntryInData size e → EntryRules (Of size) e
+  entry_tested : (e : Entry) → EntryRules test e → EntryInData size e → EntryRules (Some size) e
   entry_tested e k i =
       record { small = k.small; some = k.some; few = k.few; falls = k.falls; versions = each_two record_tested e.versions k.versions i }
 
-  pub table_tested : (t : List Entry) → TableRules test t → TableInData size t → TableRules (Of size) t
+  pub table_tested : (t : List Entry) → TableRules test t → TableInData size t → TableRules (Some size) t
   table_tested t k i = record { entries = each_two entry_tested t k.entries i; rises = k.rises }

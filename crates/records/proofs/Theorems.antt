@@ -13,7 +13,7 @@ use Rattle.laws.specs.Each.{Each}
 use Rattle.laws.specs.Each.Each.{each_none, each_more}
 use Rattle.numbers.specs.Limits.{most_key_bytes, most_versions}
 use Rattle.words.specs.Field.{AllBytes}
-use Rattle.records.specs.declared.DataLength.{DataLength}
+use Rattle.records.specs.Limits.{DataLength}
 use Rattle.records.specs.Model.{Entry, table_bytes}
 use Rattle.records.specs.Places.{entries_from, entry_place}
 use Rattle.records.specs.Rules.{unslotted}

@@ -9,24 +9,24 @@ use mathlib.Core.Bool.{Bool, cond}
 use lib.ListN.{length}
 use lib.Dec.{eqb}
 use borrow.Author.Tests.{ne_eqb}
-use Rattle.records.specs.declared.DataLength.{DataLength}
-use Rattle.records.specs.declared.Walked.{Walked}
+use Rattle.records.specs.Limits.{DataLength}
+use Rattle.records.specs.Walk.{Walk}
 use Rattle.records.specs.Places.{next_entry}
 use Rattle.records.specs.Rules.{entry_refusal}
 use Rattle.records.specs.Walk.{passed, walk_from}
 
 -- so many keys have passed before
-abbrev pub after : ℕ → Walked → Walked
+abbrev pub after : ℕ → Walk → Walk
 after n w = record { keys = n + w.keys; end = w.end; rule = w.rule }
 
-with_keys : Walked → ℕ → Walked
+with_keys : Walk → ℕ → Walk
 with_keys w n = record { keys = n; end = w.end; rule = w.rule }
 
-pub after_none : (w : Walked) → after 0 w ≡ w
+pub after_none : (w : Walk) → after 0 w ≡ w
 unfolding with_keys
 after_none w = ap (with_keys w) (zero-add w.keys)
 
-pub after_more : (n : ℕ) (w : Walked) → after n (passed w) ≡ after (n + 1) w
+pub after_more : (n : ℕ) (w : Walk) → after n (passed w) ≡ after (n + 1) w
 unfolding with_keys
 after_more n w = ap (with_keys w) (add-suc n w.keys ∙ sym (rw add-one (suc-add n w.keys)))
 

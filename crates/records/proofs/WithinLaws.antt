@@ -1,4 +1,5 @@
 -- On versions that pass, the first version within a limit is the record of greatest sequence within it, and so of an entry that stands. Assumes nothing.
+use Rattle.std.specs.Prelude.{None, Some}
 use Prim.Native.Nat.{ℕ, zero, suc, ◌+◌, ◌-◌, ◌^◌, ◌<◌}
 use native.Mathlib.Omega.{arith}
 use mathlib.Core.Path.{◌≡◌, refl, sym, ap, ◌∙◌}
@@ -12,11 +13,8 @@ use Rattle.laws.proofs.RefusalLaws.{or_else_zero}
 use Rattle.words.proofs.Laws.{le_lt}
 use Rattle.words.specs.Field.{AllBytes}
 use Rattle.records.specs.declared.Record.{Record}
-use Rattle.records.specs.declared.DataLength.{DataLength}
-use Rattle.records.specs.declared.DataLength.TheVariants.{Of}
-use Rattle.records.specs.declared.Limit.{Limit}
-use Rattle.records.specs.declared.Limit.TheVariants.{None, UpTo}
-use Rattle.records.specs.declared.VersionRead.TheVariants.{At, Unread}
+use Rattle.records.specs.Limits.{DataLength}
+use Rattle.records.specs.Limits.{Limit}
 use Rattle.records.specs.declared.Within.{Within}
 use Rattle.records.specs.declared.Within.TheVariants.{Found}
 use Rattle.records.specs.Model.{within, limit_of, better, greatest, record_within, Falls}
@@ -38,7 +36,7 @@ use Rattle.records.proofs.ReadLaws.{versions_fall}
 pub within_limit : (limit : Limit) (s : ℕ) → s < 2 ^ 64 → within limit s ≡ leb s (limit_of limit)
 unfolding within
 within_limit None s h = sym (le-leb s (2 ^ 64 - 1) (omega arith))
-within_limit (UpTo l) s h = refl
+within_limit (Some l) s h = refl
 
 -- ---- the first is the greatest
 
@@ -78,16 +76,16 @@ first_greatest limit (r ∷ rs) f =
 
 module _ (bytes : List ℕ) (limit : Limit) where
   -- THEOREM: none as a limit is the greatest sequence there is, on all bytes
-  pub first_limit : (p k : ℕ) → AllBytes bytes → first_within bytes limit p k ≡ first_within bytes (UpTo (limit_of limit)) p k
+  pub first_limit : (p k : ℕ) → AllBytes bytes → first_within bytes limit p k ≡ first_within bytes (Some (limit_of limit)) p k
   unfolding first_within version_at record_at within
   first_limit p zero all = refl
   first_limit p (suc k) all = go (ltb (length bytes) (p + 21)) (bad_kind (kind_at bytes p)) (within_limit limit (sequence_at bytes p) (le_lt 8 bytes p all)) (first_limit (p + 21) k all)
     where
-      go : (a b : Bool) → within limit (sequence_at bytes p) ≡ within (UpTo (limit_of limit)) (sequence_at bytes p) → {x y : Within} → x ≡ y
-          → within_or limit (cond a Unread (cond b Unread (At (record_at bytes p)))) x ≡ within_or (UpTo (limit_of limit)) (cond a Unread (cond b Unread (At (record_at bytes p)))) y
+      go : (a b : Bool) → within limit (sequence_at bytes p) ≡ within (Some (limit_of limit)) (sequence_at bytes p) → {x y : Within} → x ≡ y
+          → within_or limit (cond a None (cond b None (Some (record_at bytes p)))) x ≡ within_or (Some (limit_of limit)) (cond a None (cond b None (Some (record_at bytes p)))) y
       go true b w q = refl
       go false true w q = refl
-      go false false w q = rw w (ap (cond (within (UpTo (limit_of limit)) (sequence_at bytes p)) (Found (record_at bytes p))) q)
+      go false false w q = rw w (ap (cond (within (Some (limit_of limit)) (sequence_at bytes p)) (Found (record_at bytes p))) q)
 
   module _ (test : DataLength) where
     search_first : (k prev p : ℕ) → versions_refusal bytes test prev p k ≡ 0 → first_within bytes limit p k ≡ found_of (first_in limit (versions_from bytes p k))
@@ -112,4 +110,4 @@ module _ (bytes : List ℕ) (limit : Limit) where
   unfolding entry_at
   entry_within_lem p s =
       entry_head bytes p limit _ (sym (head_whole bytes p _ _ refl refl s.whole))
-      ∙ search_greatest (Of s.size) (version_count bytes p) (first_version bytes p) (first_version bytes p) s.versions
+      ∙ search_greatest (Some s.size) (version_count bytes p) (first_version bytes p) (first_version bytes p) s.versions

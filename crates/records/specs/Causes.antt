@@ -1,7 +1,7 @@
 -- What stops a walk: the exact cause of each number from 23 to 30 (document 01, "Validation"), a row of tests for a key and for a version.
 use Rattle.std.specs.Prelude.{ℕ, suc, ◌+◌, ◌<◌, ◌≡◌, List, length}
 use Rattle.laws.specs.Refusals.{First, None}
-use Rattle.records.specs.declared.DataLength.{DataLength}
+use Rattle.records.specs.Limits.{DataLength}
 use Rattle.records.specs.Places.{version_count, first_version, next_entry}
 use Rattle.records.specs.Rules.{key_causes, version_causes, entry_refusal}
 

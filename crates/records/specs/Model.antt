@@ -1,16 +1,13 @@
 -- The record list that an arena stands for, and its bytes (document 01, "Layouts").
-use Rattle.std.specs.Prelude.{ℕ, ◌-◌, ◌^◌, ◌<◌, List, [], ◌∷◌, ◌++◌, Bool, true, cond, ◌&&◌, ◌≡◌, length, leb, eqb}
+use Rattle.std.specs.Prelude.{ℕ, ◌-◌, ◌^◌, ◌<◌, List, [], ◌∷◌, ◌++◌, Bool, true, cond, ◌&&◌, ◌≡◌, length, leb, eqb, None, Option as Read, Some}
 use Rattle.std.proofs.Math.Option.{Option, none, some}
 use Rattle.words.specs.Field.{bytes_of}
-use Rattle.words.specs.declared.part.Order.TheVariants.{Less}
+use Rattle.std.specs.declared.cmp.Ordering.TheVariants.{Less}
 use Rattle.words.specs.Part.{order_of, same_as}
 use Rattle.records.specs.declared.Kind.{Kind}
 use Rattle.records.specs.declared.Kind.TheVariants.{Put, Tombstone}
-use Rattle.records.specs.declared.KindRead.{KindRead}
-use Rattle.records.specs.declared.KindRead.TheVariants.{Known, Unknown}
 use Rattle.records.specs.declared.Record.{Record}
-use Rattle.records.specs.declared.Limit.{Limit}
-use Rattle.records.specs.declared.Limit.TheVariants.{None, UpTo}
+use Rattle.records.specs.Limits.{Limit}
 
 -- an entry: a key with its records, newest first; a table is a list of entries
 pub record Entry : Type 0 where
@@ -23,8 +20,8 @@ kind_byte Put = 1
 kind_byte Tombstone = 2
 
 -- a byte as a kind, if it is one
-abbrev pub kind_read : ℕ → KindRead
-kind_read b = cond (eqb b 1) (Known Put) (cond (eqb b 2) (Known Tombstone) Unknown)
+abbrev pub kind_read : ℕ → Read Kind
+kind_read b = cond (eqb b 1) (Some Put) (cond (eqb b 2) (Some Tombstone) None)
 
 -- a version of 21 bytes: u64 sequence, kind, u32 value length, u64 value offset
 unfoldable pub version_bytes : Record → List ℕ
@@ -47,12 +44,12 @@ table_bytes (e ∷ es) = entry_bytes e ++ table_bytes es
 -- a sequence within the limit
 unfoldable pub within : Limit → ℕ → Bool
 within None sequence = true
-within (UpTo l) sequence = leb sequence l
+within (Some l) sequence = leb sequence l
 
 -- a limit as a number: none is the greatest sequence there is
 abbrev pub limit_of : Limit → ℕ
 limit_of None = 2 ^ 64 - 1
-limit_of (UpTo l) = l
+limit_of (Some l) = l
 
 -- every record of a key
 unfoldable pub records_of : List Entry → List ℕ → List Record

@@ -1,23 +1,15 @@
 -- The rules of a key and of a version on bytes, each with its number (document 01, "Validation"). "None before" is the place itself.
-use Rattle.std.specs.Prelude.{ℕ, zero, suc, ◌+◌, Bool, true, false, not, ◌&&◌, ◌||◌, List, [], ◌∷◌, ltb, eqb, length}
+use Rattle.std.specs.Prelude.{ℕ, zero, suc, ◌+◌, Bool, false, not, ◌&&◌, ◌||◌, List, [], ◌∷◌, ltb, eqb, length, None, Some}
+use Rattle.std.specs.Ordering.{is_lt}
 use Rattle.laws.specs.Refusals.{Cause, cause, first_of, or_else}
 use Rattle.numbers.specs.Limits.{most_key_bytes, most_value_bytes}
-use Rattle.words.specs.declared.part.Order.{Order}
-use Rattle.words.specs.declared.part.Order.TheVariants.{Less, Equal, Greater}
 use Rattle.words.specs.Part.{order_of}
-use Rattle.records.specs.declared.DataLength.{DataLength}
-use Rattle.records.specs.declared.DataLength.TheVariants.{Untested, Of}
+use Rattle.records.specs.Limits.{DataLength}
 use Rattle.records.specs.Places.{key_length, version_count, key_at, first_version, sequence_at, kind_at, length_at, offset_at}
-
--- strictly less
-abbrev pub is_less : Order → Bool
-is_less Less = true
-is_less Equal = false
-is_less Greater = false
 
 -- the key at p is greater than the one of the entry at prev; none stands before where prev is p
 unfoldable pub key_rises : List ℕ → (prev p : ℕ) → Bool
-key_rises bytes prev p = eqb prev p || is_less (order_of (key_at bytes prev) (key_at bytes p))
+key_rises bytes prev p = eqb prev p || is_lt (order_of (key_at bytes prev) (key_at bytes p))
 
 -- 23 under 8 bytes left, 24 key length over the limit or past the end, or no versions, 25 keys not strictly rising
 abbrev pub key_causes : List ℕ → (prev p : ℕ) → List Cause
@@ -38,8 +30,8 @@ bad_kind k = not (eqb k 1 || eqb k 2)
 
 -- offset + length past the data, where a data length is given
 abbrev pub past_data : DataLength → (offset size : ℕ) → Bool
-past_data Untested offset size = false
-past_data (Of n) offset size = ltb n (offset + size)
+past_data None offset size = false
+past_data (Some n) offset size = ltb n (offset + size)
 
 -- tombstone with length
 abbrev pub full_tombstone : (kind size : ℕ) → Bool

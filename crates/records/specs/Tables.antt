@@ -4,8 +4,8 @@ use Rattle.laws.specs.Each.{Each}
 use Rattle.numbers.specs.Limits.{most_key_bytes, most_value_bytes}
 use Rattle.records.specs.declared.Kind.TheVariants.{Tombstone}
 use Rattle.records.specs.declared.Record.{Record}
-use Rattle.records.specs.declared.DataLength.{DataLength}
-use Rattle.records.specs.declared.Walked.{Walked}
+use Rattle.records.specs.Limits.{DataLength}
+use Rattle.records.specs.Walk.{Walk}
 use Rattle.records.specs.Model.{Entry, table_bytes, Falls, Rises}
 use Rattle.records.specs.Places.{entries_from, entry_place}
 use Rattle.records.specs.Rules.{past_data}
@@ -56,7 +56,7 @@ abbrev pub TableInData : ℕ → List Entry → Type 0
 TableInData size = Each (EntryInData size)
 
 -- what a walk that started at p has read: the table of as many entries as keys passed
-pub record Walks (test : DataLength) (bytes : List ℕ) (p : ℕ) (w : Walked) : Type 0 where
+pub record Walks (test : DataLength) (bytes : List ℕ) (p : ℕ) (w : Walk) : Type 0 where
   pub count : length (entries_from bytes p w.keys) ≡ w.keys
   pub place : w.end ≡ entry_place bytes p w.keys
   pub inside : w.end ≤ length bytes

@@ -3,21 +3,14 @@ ghost use Rattle.std.specs.Prelude.{◌≡◌, ◌≤◌, length};
 ghost use Rattle.records.specs.Places.{key_at, first_version, next_entry};
 ghost use Rattle.records.specs.Cursor.{head_at, version_at};
 
-use super::{Kind, KindRead, Record, VersionRead};
+use super::{Kind, Record};
 use words::field;
 
 // What the head of an entry says: how many versions it has, and where the first one stands.
-#[derive(Drop)]
+#[derive(Clone, Copy)]
 pub struct Head {
     pub versions: u32,
     pub first: usize,
-}
-
-// The head read at a place.
-#[derive(Drop)]
-pub enum HeadRead {
-    At(Head),
-    Outside,
 }
 
 impl Head {
@@ -29,23 +22,23 @@ impl Head {
 }
 
 // The head of the entry at p, where it and its key lie in the bytes.
-pub fn head_at(bytes: &[u8], p: usize) -> HeadRead
+pub fn head_at(bytes: &[u8], p: usize) -> Option<Head>
     ensures { result ≡ head_at bytes.now p }
 {
     if bytes.len() < p {
-        return HeadRead::Outside;
+        return None;
     }
     if bytes.len() - p < Head::BYTES {
-        return HeadRead::Outside;
+        return None;
     }
     let key = p + Head::BYTES;
     let length = field::u32_at(bytes, p) as usize;
     if bytes.len() - key < length {
-        return HeadRead::Outside;
+        return None;
     }
     let versions = field::u32_at(bytes, p + 4);
     let first = key + length;
-    HeadRead::At(Head { versions, first })
+    Some(Head { versions, first })
 }
 
 // The key of the entry at p.
@@ -69,26 +62,23 @@ pub fn next_entry(bytes: &[u8], p: usize) -> usize
 }
 
 // The version at p, where it lies in the bytes and its kind is one.
-pub fn version_at(bytes: &[u8], p: usize) -> VersionRead
+pub fn version_at(bytes: &[u8], p: usize) -> Option<Record>
     ensures { result ≡ version_at bytes.now p }
 {
     if bytes.len() < p {
-        return VersionRead::Unread;
+        return None;
     }
     if bytes.len() - p < Record::BYTES {
-        return VersionRead::Unread;
+        return None;
     }
     let sequence = field::u64_at(bytes, p);
     let length = field::u32_at(bytes, p + 9);
     let offset = field::u64_at(bytes, p + 13);
-    let k = Kind::from_byte(bytes[p + 8]);
-    match k {
-        KindRead::Known(kind) => VersionRead::At(Record {
-            kind,
-            sequence,
-            offset,
-            length,
-        }),
-        KindRead::Unknown => VersionRead::Unread,
-    }
+    let kind = Kind::from_byte(bytes[p + 8])?;
+    Some(Record {
+        kind,
+        sequence,
+        offset,
+        length,
+    })
 }

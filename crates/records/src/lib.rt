@@ -4,56 +4,42 @@
 ghost use Rattle.std.specs.Prelude.{◌≡◌};
 ghost use Rattle.records.specs.Model.{kind_byte, kind_read, limit_of};
 
+use numbers::Refusal;
+
 pub mod cursor;
 pub mod rules;
 pub mod search;
 pub mod walk;
 
 // What a record says of its key: it holds a value, or it was withdrawn.
-#[derive(Clone, Copy)]
+#[derive(Clone, Copy, Debug, PartialEq, Eq)]
 pub enum Kind {
-    Put,
-    Tombstone,
-}
-
-// A byte read as a kind.
-#[derive(Drop)]
-pub enum KindRead {
-    Known(Kind),
-    Unknown,
+    Put = 1,
+    Tombstone = 2,
 }
 
 impl Kind {
-    pub const PUT: u8 = 1;
-
-    pub const TOMBSTONE: u8 = 2;
-
     // The kind of a byte, if it is one.
-    pub fn from_byte(b: u8) -> KindRead
+    pub fn from_byte(b: u8) -> Option<Kind>
         ensures { result ≡ kind_read b }
     {
-        if b == Kind::PUT {
-            return KindRead::Known(Kind::Put);
+        match b {
+            1 => Some(Kind::Put),
+            2 => Some(Kind::Tombstone),
+            _ => None,
         }
-        if b == Kind::TOMBSTONE {
-            return KindRead::Known(Kind::Tombstone);
-        }
-        KindRead::Unknown
     }
 
     // The byte of the kind.
     pub fn byte(self) -> u8
         ensures { result ≡ kind_byte self }
     {
-        match self {
-            Kind::Put => Kind::PUT,
-            Kind::Tombstone => Kind::TOMBSTONE,
-        }
+        self as u8
     }
 }
 
 // One version of a key: where its value lies in the data.
-#[derive(Clone, Copy)]
+#[derive(Clone, Copy, Debug, PartialEq, Eq)]
 pub struct Record {
     pub kind: Kind,
     pub sequence: u64,
@@ -78,48 +64,25 @@ impl Arena {
     pub const MAX_KEYS: usize = 65_536;
 }
 
-// A version read at a place: its record; or it lies outside the bytes, or its kind is none.
-#[derive(Drop)]
-pub enum VersionRead {
-    At(Record),
-    Unread,
-}
-
 // How new a record may be: any, or up to a sequence.
-#[derive(Clone, Copy)]
-pub enum Limit {
-    None,
-    UpTo(u64),
-}
+pub type Limit = Option<u64>;
 
-impl Limit {
-    // The greatest sequence there is.
-    pub const MAX: u64 = 0xffff_ffff_ffff_ffff;
-
-    // The limit as a number: none is the greatest sequence.
-    pub fn number(self) -> u64
-        ensures { result ≡ limit_of self }
-    {
-        match self {
-            Limit::None => Limit::MAX,
-            Limit::UpTo(l) => l,
-        }
-    }
+// The limit as a number: none is the greatest sequence.
+pub fn limit_number(limit: Limit) -> u64
+    ensures { result ≡ limit_of limit }
+{
+    limit.unwrap_or(u64::MAX)
 }
 
 // The length of the data that offsets point into, where it is tested.
-#[derive(Clone, Copy)]
-pub enum DataLength {
-    Untested,
-    Of(u64),
-}
+pub type DataLength = Option<u64>;
 
-// What a walk found: the keys that passed, the place after the last whole one, and the rule that stopped it (0: none).
-#[derive(Drop)]
+// What a walk found: the keys that passed, the place after the last whole one, and the rule that stopped it.
+#[derive(Clone, Copy)]
 pub struct Walked {
     pub keys: usize,
     pub end: usize,
-    pub rule: u8,
+    pub rule: Result<(), Refusal>,
 }
 
 // The first version within a limit: its record, none, or a version that can't be read.

@@ -2,28 +2,22 @@
 ghost use Rattle.std.specs.Prelude.{◌≡◌};
 ghost use Rattle.records.specs.Within.{first_within, entry_within};
 
-use super::cursor::HeadRead;
-use super::{Limit, Record, VersionRead, Within, cursor};
+use super::{Limit, Record, Within, cursor, limit_number};
 
 // The first of the count versions from p on that is within the limit.
 pub fn first_within(bytes: &[u8], limit: Limit, p: usize, count: u32) -> Within
     ensures { result ≡ first_within bytes.now limit p count }
 {
-    let most = limit.number();
+    let most = limit_number(limit);
     let mut at = p;
-    let mut left = count;
-    while 0 < left {
-        let read = cursor::version_at(bytes, at);
-        match read {
-            VersionRead::At(version) => {
-                if version.sequence <= most {
-                    return Within::Found(version);
-                }
-            }
-            VersionRead::Unread => return Within::Damaged,
+    for _ in 0..count {
+        let Some(version) = cursor::version_at(bytes, at) else {
+            return Within::Damaged;
+        };
+        if version.sequence <= most {
+            return Within::Found(version);
         }
         at += Record::BYTES;
-        left -= 1;
     }
     Within::Nothing
 }
@@ -32,12 +26,8 @@ pub fn first_within(bytes: &[u8], limit: Limit, p: usize, count: u32) -> Within
 pub fn entry_within(bytes: &[u8], place: usize, limit: Limit) -> Within
     ensures { result ≡ entry_within bytes.now place limit }
 {
-    let read = cursor::head_at(bytes, place);
-    match read {
-        HeadRead::At(head) => {
-            let first = head.first;
-            first_within(bytes, limit, first, head.versions)
-        }
-        HeadRead::Outside => Within::Damaged,
+    match cursor::head_at(bytes, place) {
+        Some(head) => first_within(bytes, limit, head.first, head.versions),
+        None => Within::Damaged,
     }
 }

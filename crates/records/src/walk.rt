@@ -1,38 +1,43 @@
 // The walk over an arena: how far the rules hold.
 ghost use Rattle.std.specs.Prelude.{◌≡◌};
+ghost use Rattle.numbers.specs.Numbers.{number_of};
 ghost use Rattle.records.specs.Rules.{unslotted};
-ghost use Rattle.records.specs.Walk.{walk_from};
+ghost use Rattle.records.specs.Walk.{Finds, end_refusal, walk_from};
 
 use super::{DataLength, Walked, cursor, rules};
 use numbers::Refusal;
 
+// Refuses by 30: bytes are left over where a walk ends.
+pub fn check_end(bytes: &[u8], p: usize) -> Result<(), Refusal>
+    ensures { number_of result ≡ end_refusal bytes.now p }
+{
+    if p == bytes.len() {
+        return Ok(());
+    }
+    Err(Refusal::LeftOver)
+}
+
 // At most so many keys of the bytes: those that pass, the place after the last whole one, and the rule that stopped the walk.
 pub fn walk(bytes: &[u8], test: DataLength, most: usize) -> Walked
-    ensures { result ≡ walk_from unslotted bytes.now test 0 0 most }
+    ensures { Finds result (walk_from unslotted bytes.now test 0 0 most) }
 {
     let mut prev = 0;
     let mut p = 0;
-    let mut keys = 0;
-    while keys < most {
-        let rule = rules::entry_refusal(bytes, test, prev, p);
-        if rule != 0 {
-            return Walked { keys, end: p, rule };
+    for keys in 0..most {
+        if let Err(refusal) = rules::check_entry(bytes, test, prev, p) {
+            return Walked {
+                keys,
+                end: p,
+                rule: Err(refusal),
+            };
         }
         let next = cursor::next_entry(bytes, p);
         prev = p;
         p = next;
-        keys += 1;
-    }
-    if p == bytes.len() {
-        return Walked {
-            keys,
-            end: p,
-            rule: 0,
-        };
     }
     Walked {
-        keys,
+        keys: most,
         end: p,
-        rule: Refusal::LEFT_OVER,
+        rule: check_end(bytes, p),
     }
 }

@@ -1,13 +1,16 @@
 -- Laws of `up_to`, the place of a number in a rising table. Assumes nothing.
 use mathlib.Core.Path.{◌≡◌, ap}
-use mathlib.Core.Bool.{Bool, true, cond, and-eq-true_iff}
+use mathlib.Core.Bool.{Bool, true, false, cond, and-eq-true_iff}
 use mathlib.Core.List.{List, [], ◌∷◌}
 use Prim.Native.Nat.{ℕ, zero, suc, ◌≤◌, ◌<◌}
 use native.Mathlib.Nat.{not-suc-le-zero, le_of_suc-le-suc}
 use native.Mathlib.Omega.{arith}
 use lib.Dec.{leb, ltb}
 use lib.ListN.{length, get_or}
-use borrow.Author.Tests.{leb-true, leb-false, le-leb, lt-leb, ltb-true}
+use borrow.Author.Tests.{leb-true, leb-false, le-leb, lt-leb, ltb-true, ltb-false}
+use Rattle.std.specs.List.{AllWithin}
+use Rattle.std.specs.List.Sorted.{IsPartitionedBy, IsPartitionPoint}
+use Rattle.std.proofs.lemmas.List.{get_or_default}
 use Rattle.laws.proofs.Cases.{by_test}
 use Rattle.sizing.specs.Sizing.{up_to, rises_from, rises_strictly}
 
@@ -60,3 +63,27 @@ pub up_to_front : (xs : List ℕ) → rises_strictly xs ≡ true → (n i : ℕ)
 unfolding rises_strictly
 up_to_front [] t n i l h = absurd (not-suc-le-zero l)
 up_to_front (x ∷ xs) t n i l h = front x xs t n i l h
+
+-- so the numbers of a rising table that are at most n stand in front of those that are greater
+pub rising_parted : (xs : List ℕ) → rises_strictly xs ≡ true → (n : ℕ) → IsPartitionedBy (λ x. leb x n) xs
+rising_parted xs t n i j d ij jl e =
+    by_test (leb (get_or xs i d) n) (λ y. y)
+    (λ y.
+    let back : up_to xs n ≤ i = up_to_back xs n i (omega arith) (omega (arith, leb-false _ _ y, get_or_default xs i d 0 (omega arith))) in
+    let front : j < up_to xs n = up_to_front xs t n j jl (omega (arith, leb-true _ _ e, get_or_default xs j d 0 jl)) in
+    absurd (omega arith))
+
+-- and the point between them is their number
+pub parted_up_to : (xs : List ℕ) → rises_strictly xs ≡ true → (n k : ℕ) → k ≤ length xs
+    → IsPartitionPoint (λ x. leb x n ≡ true) (λ x. leb x n ≡ false) xs k → k ≡ up_to xs n
+parted_up_to xs t n k b p = omega (arith, upper, lower k b p.0)
+  where
+    upper : up_to xs n ≤ k
+    upper =
+        by_test (ltb k (length xs))
+        (λ y. let l : k < length xs = ltb-true _ _ y in up_to_back xs n k l (leb-false _ _ (p.1 k 0 (omega arith) l)))
+        (λ y. omega (arith, ltb-false _ _ y, up_to_length xs n))
+
+    lower : (i : ℕ) → i ≤ length xs → AllWithin (λ x. leb x n ≡ true) xs 0 i → i ≤ up_to xs n
+    lower zero l a = omega arith
+    lower (suc i) l a = up_to_front xs t n i (omega arith) (leb-true _ _ (a i 0 (omega arith) (omega arith)))

@@ -16,29 +16,12 @@ pub enum Plan {
     Fuse(Sizes),
 }
 
-// A number of a table, at 64 bits.
-fn wide(x: u32) -> usize
-    ensures { result ≡ x }
-{
-    x as usize
-}
-
-// How many numbers at the front of a rising table are at most n: a binary search, for both tables.
+// How many numbers at the front of a rising table are at most n, for both tables.
 fn up_to(table: &[u32], n: usize) -> usize
     requires { rises_strictly table.now ≡ true }
     ensures { result ≡ up_to table.now n }
 {
-    let mut low: usize = 0;
-    let mut high = table.len();
-    while low < high {
-        let mid = low + (high - low) / 2;
-        if wide(table[mid]) <= n {
-            low = mid + 1;
-        } else {
-            high = mid;
-        }
-    }
-    low
+    table.partition_point(|x| *x as usize <= n)
 }
 
 // The segment.
@@ -47,7 +30,7 @@ fn segment(n: usize) -> u32
     ensures { result ≡ segment_of n }
 {
     let exponent = up_to(&LEASTS, n) - 1;
-    1u32 << exponent
+    1 << exponent
 }
 
 // The number of segments less 3; the last row runs on past the most hashes.

@@ -6,13 +6,12 @@ use native.Mathlib.Omega.{arith}
 use mathlib.Core.Path.{◌≡◌, refl, sym, ap, ◌∙◌}
 use mathlib.Core.Bool.{Bool, true, false, cond}
 use mathlib.Core.List.{List, [], ◌∷◌, ◌++◌, append_assoc}
-use lib.Dec.{ltb}
+use lib.Dec.{eqb, ltb}
 use lib.ListN.{length, take, drop, set, length-append, length-drop, length-set}
 use lib.Seq.{drop-cons, get_or-set_same, drop-set-lt}
 use borrow.Author.Rules.{part_to_end}
-use borrow.Author.Tests.{ltb-true, ltb-false, lt-ltb, le-ltb}
+use borrow.Author.Tests.{eqb-true, ltb-true, ltb-false, lt-ltb, le-ltb}
 use Rattle.text.specs.Text.{digits_in, decimal, read_from, hex_of, key_text}
-use Rattle.text.specs.Inner.Written.{DigitsLaid}
 
 -- ---- decimal digits
 
@@ -81,15 +80,15 @@ hex_length [] = refl
 hex_length (b ∷ bs) = let e = hex_length bs in omega arith
 
 -- a key that is empty, and one that is not
-pub key_text_none : (key : List ℕ) → length key ≡ 0 → key_text key ≡ 45 ∷ []
+pub key_text_none : (key : List ℕ) → true ≡ eqb (length key) 0 → key_text key ≡ 45 ∷ []
 unfolding key_text
 key_text_none [] e = refl
-key_text_none (b ∷ bs) e = absurd (suc-ne-zero _ e)
+key_text_none (b ∷ bs) e = absurd (suc-ne-zero _ (eqb-true _ _ (sym e)))
 
-pub key_text_some : (key : List ℕ) → (length key ≡ 0 → ⊥) → key_text key ≡ hex_of key
+pub key_text_some : (key : List ℕ) → false ≡ eqb (length key) 0 → key_text key ≡ hex_of key
 unfolding key_text
-key_text_some [] n = absurd (n refl)
-key_text_some (b ∷ bs) n = refl
+key_text_some [] e = cc
+key_text_some (b ∷ bs) e = refl
 
 pub key_text_length : (key : List ℕ) → length (key_text key) ≤ 1 + 2 * length key
 unfolding key_text
@@ -125,15 +124,12 @@ module _ (n rest from : ℕ) (bytes : List ℕ) (all : length bytes ≡ 20) (her
       let q : from < length bytes = omega arith in
       rw (e, drop_stored bytes from (48 + rest % 10) q) (sym (append_assoc (decimal (rest / 10)) ((48 + rest % 10) ∷ []) (drop (from + 1) bytes)) ∙ rw (← decimal_more rest t) so)
 
-  pub digits_end : rest < 10 → DigitsLaid n from (set bytes from (48 + rest))
+  -- the part of the array from the first digit on
+  pub digits_end : rest < 10 → take (20 - from) (drop from (set bytes from (48 + rest))) ≡ decimal n
   digits_end t =
       let q : from < length bytes = omega arith in
-      record {
-        here = here;
-        whole = length-set bytes from (48 + rest) ∙ all;
-        digits = drop_stored bytes from (48 + rest) q ∙ rw (decimal_last rest t) at so;
-      }
-
--- the part of the array from there on
-pub laid_part : {n from : ℕ} {bytes : List ℕ} → DigitsLaid n from bytes → take (20 - from) (drop from bytes) ≡ decimal n
-laid_part {n} {from} {bytes} l = ap (λ (k : ℕ). take (k - from) (drop from bytes)) (sym l.whole) ∙ part_to_end bytes from ∙ l.digits
+      let e : length (set bytes from (48 + rest)) ≡ 20 = length-set bytes from (48 + rest) ∙ all in
+      ap (λ (k : ℕ). take (k - from) (drop from (set bytes from (48 + rest)))) (sym e)
+      ∙ part_to_end (set bytes from (48 + rest)) from
+      ∙ drop_stored bytes from (48 + rest) q
+      ∙ rw (decimal_last rest t) at so

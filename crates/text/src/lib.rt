@@ -4,14 +4,7 @@
 
 ghost use Rattle.std.specs.Prelude.{◌≡◌, [], ◌∷◌, ◌<◌, set};
 ghost use Rattle.text.specs.Text.{decimal, hex_digit, hex_of, key_text, field, named};
-ghost use Rattle.text.specs.Inner.Written.{DigitsLaid, Ends, WrittenAt};
-
-// The decimal digits of a number, at the end of an array.
-#[derive(Drop)]
-struct Digits {
-    bytes: [u8; 20],
-    from: usize,
-}
+ghost use Rattle.text.specs.Inner.Written.{Ends, WrittenAt};
 
 // Stores a byte, if its place is in the buffer.
 fn store(out: &mut [u8], at: usize, b: u8)
@@ -36,39 +29,27 @@ pub fn put_word(out: &mut [u8], at: usize, word: &[u8]) -> usize
     requires { Ends at word.now }
     ensures { WrittenAt out.old at word.now out.new result }
 {
-    let mut i = 0;
-    while i < word.len() {
-        store(out, at + i, word[i]);
-        i += 1;
+    for (i, b) in word.iter().enumerate() {
+        store(out, at + i, *b);
     }
-    at + i
+    at + word.len()
 }
 
-// The decimal digits of n.
-fn digits_of(n: u64) -> Digits
-    ensures { DigitsLaid n result.from result.bytes }
-{
-    let mut bytes = [0u8; 20];
-    let mut from: usize = 19;
-    let mut rest = n;
-    while 10 <= rest {
-        bytes[from] = (48 + rest % 10) as u8;
-        from -= 1;
-        rest /= 10;
-    }
-    bytes[from] = (48 + rest) as u8;
-    Digits { bytes, from }
-}
-
-// Writes a number in decimal digits.
+// Writes a number in decimal digits, laid down from the last one at the end of an array: 2^64 - 1 has 20.
 fn put_decimal(out: &mut [u8], at: usize, n: u64) -> usize
     requires { Ends at (decimal n) }
     ensures { WrittenAt out.old at (decimal n) out.new result }
 {
-    let d = digits_of(n);
-    let from = d.from;
-    let bytes = d.bytes;
-    put_word(out, at, &bytes[from..])
+    let mut digits = [0; 20];
+    let mut from = 19;
+    let mut rest = n;
+    while 10 <= rest {
+        digits[from] = b'0' + (rest % 10) as u8;
+        from -= 1;
+        rest /= 10;
+    }
+    digits[from] = b'0' + rest as u8;
+    put_word(out, at, &digits[from..])
 }
 
 // A digit in lower-case hex.
@@ -76,10 +57,7 @@ fn hex_digit(d: u8) -> u8
     requires { d < 16 }
     ensures { result ≡ hex_digit d }
 {
-    if d < 10 {
-        return 48 + d;
-    }
-    87 + d
+    if d < 10 { b'0' + d } else { b'a' + (d - 10) }
 }
 
 // Writes bytes in lower-case hex.
@@ -88,13 +66,9 @@ fn put_hex(out: &mut [u8], at: usize, bytes: &[u8]) -> usize
     ensures { WrittenAt out.old at (hex_of bytes.now) out.new result }
 {
     let mut p = at;
-    let mut i = 0;
-    while i < bytes.len() {
-        let b = bytes[i];
-        store(out, p, hex_digit(b / 16));
-        store(out, p + 1, hex_digit(b % 16));
-        p += 2;
-        i += 1;
+    for b in bytes {
+        p = put_byte(out, p, hex_digit(*b / 16));
+        p = put_byte(out, p, hex_digit(*b % 16));
     }
     p
 }
@@ -104,7 +78,7 @@ pub fn put_key(out: &mut [u8], at: usize, key: &[u8]) -> usize
     requires { Ends at (key_text key.now) }
     ensures { WrittenAt out.old at (key_text key.now) out.new result }
 {
-    if key.len() == 0 {
+    if key.is_empty() {
         return put_byte(out, at, b'-');
     }
     put_hex(out, at, key)

@@ -1,2 +1,1 @@
 pub mod FormatLaws
-pub mod SpaceLaws

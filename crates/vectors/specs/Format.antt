@@ -1,8 +1,7 @@
 -- The vector file: `WASHVEC1`, u32 number of cases, then the cases, each a u8 op and its payload as `bytes` (u32 length, then the bytes).
-use Rattle.std.specs.Prelude.{ℕ, ◌+◌, ◌-◌, ◌%◌, ◌^◌, min, Bool, cond, List, length, take, drop, ◌==◌, nat_le, nat_lt, slice_index}
+use Rattle.std.specs.Prelude.{ℕ, ◌+◌, ◌-◌, ◌%◌, ◌^◌, ◌≡◌, ◌≤◌, min, Bool, cond, List, length, take, drop, ◌==◌, nat_le, nat_lt, slice_index, Option, Some, None}
 use Rattle.words.specs.Field.{le}
-use Rattle.vectors.specs.declared.File.{File}
-use Rattle.vectors.specs.declared.File.TheVariants.{Cases, Other}
+use Rattle.vectors.specs.declared.Cursor.{Cursor}
 use Rattle.vectors.specs.declared.Next.{Next}
 use Rattle.vectors.specs.declared.Next.TheVariants.{Case, End, Damaged}
 use Rattle.vectors.specs.declared.Count.{Count}
@@ -10,6 +9,10 @@ use Rattle.vectors.specs.declared.Count.{Count}
 -- the number of k bytes at a place; 0 where they aren't all there
 abbrev pub field_of : ℕ → List ℕ → ℕ → ℕ
 field_of k raw at = cond (nat_le (at + k) (length raw)) (le k raw at) 0
+
+-- these are the k bytes at a place
+abbrev pub IsFieldAt : List ℕ → ℕ → ℕ → List ℕ → Type 0
+IsFieldAt raw at k bytes = (at + k ≤ length raw) × (bytes ≡ take k (drop at raw))
 
 -- the place `size` bytes after `at`, at most the end
 abbrev pub end_of : List ℕ → ℕ → ℕ → ℕ
@@ -24,10 +27,10 @@ abbrev pub field_bytes : List ℕ → ℕ → List ℕ
 field_bytes raw at = take (bytes_end raw at - end_of raw at 4) (drop (end_of raw at 4) raw)
 
 -- a file with its magic (`WASHVEC1` as a number): the number of cases, and the first of them behind it
-abbrev pub file_of : List ℕ → File
+abbrev pub file_of : List ℕ → Option Cursor
 file_of file =
-    cond (nat_lt (length file) 12) Other
-    (cond (le 8 file 0 == 3549757168181002583) (Cases (record { at = 12; left = le 4 file 8 })) Other)
+    cond (nat_lt (length file) 12) None
+    (cond (le 8 file 0 == 3549757168181002583) (Some (record { at = 12; left = le 4 file 8 })) None)
 
 -- at a place with so many cases left: a whole case, or after the last one the file's end
 abbrev pub next_of : List ℕ → ℕ → ℕ → Next

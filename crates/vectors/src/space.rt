@@ -1,94 +1,58 @@
 // Space that a call is lent: what it holds before the call, and whether it holds after it what it should.
-ghost use Rattle.std.specs.Prelude.{◌≡◌, length};
-ghost use Rattle.vectors.specs.Space.{all_of};
+ghost use Rattle.std.specs.Prelude.{◌≡◌, ◌&&◌, length};
+ghost use Rattle.std.specs.List.{list_all};
+ghost use Rattle.vectors.specs.Space.{all_of, written_as};
 
 // What lent space holds before a call.
 pub const DIRTY: u8 = 0xa5;
 
-// Room for the output of finish, a builder buffer or a repeated key of the stored cases, full of v.
-pub fn room(v: u8) -> [u8; 1_048_640]
-    ensures { 1048640 ≡ length result }
+// What suffices for the output of finish, a builder buffer or a repeated key of the stored cases.
+pub const LARGEST: usize = 1_048_640;
+
+// Room for N values, full of v. The `ensures` gives only the length, which lending it needs.
+pub fn room<T: Copy, const N: usize>(v: T) -> [T; N]
+    ensures { N ≡ length result }
 {
-    [v; 1_048_640]
+    [v; N]
 }
 
-// Whether every word is v.
-fn all_u64(space: &[u64], v: u64) -> bool
-    ensures { result ≡ all_of v space.now }
+// Whether every number is v.
+fn all_are<T: Copy + PartialEq>(space: &[T], v: T) -> bool
+    ensures { result ≡ list_all (λ x. T.eq x v) space.now }
 {
-    let mut i = 0;
-    while i < space.len() {
-        if space[i] != v {
-            return false;
-        }
-        i += 1;
-    }
-    true
-}
-
-// Whether every word is v.
-fn all_u32(space: &[u32], v: u32) -> bool
-    ensures { result ≡ all_of v space.now }
-{
-    let mut i = 0;
-    while i < space.len() {
-        if space[i] != v {
-            return false;
-        }
-        i += 1;
-    }
-    true
-}
-
-// Whether every byte is v.
-fn all_u8(space: &[u8], v: u8) -> bool
-    ensures { result ≡ all_of v space.now }
-{
-    let mut i = 0;
-    while i < space.len() {
-        if space[i] != v {
-            return false;
-        }
-        i += 1;
-    }
-    true
+    space.iter().all(|x| *x == v)
 }
 
 // Whether all workspace holds v.
-pub fn spaces_hold(wide: &[u64], narrow: &[u32], v: u8) -> bool {
-    if all_u64(wide, v as u64) {
-        return all_u32(narrow, v as u32);
-    }
-    false
+pub fn spaces_hold(wide: &[u64], narrow: &[u32], v: u8) -> bool
+    ensures { result ≡ all_of v wide.now && all_of v narrow.now }
+{
+    all_are(wide, v as u64) && all_are(narrow, v as u32)
 }
 
 // Whether the output begins with these bytes, and is untouched behind them.
-pub fn output_agrees(out: &[u8], want: &[u8]) -> bool {
-    let n = want.len();
-    if out.len() < n {
-        return false;
+pub fn output_agrees(out: &[u8], want: &[u8]) -> bool
+    ensures { result ≡ written_as want.now out.now }
+{
+    match out.split_at_checked(want.len()) {
+        Some((front, rest)) => words::part::same(front, want) && all_are(rest, DIRTY),
+        None => false,
     }
-    if words::part::same(&out[..n], want) {
-        return all_u8(&out[n..], DIRTY);
-    }
-    false
 }
 
 // The digest of output: the key hash of its bytes with seed 0; 0 of none.
 fn digest(out: &[u8]) -> u64 {
-    if out.len() == 0 {
-        return 0;
+    if out.is_empty() {
+        0
+    } else {
+        mixing::hash(out, 0)
     }
-    mixing::hash(out, 0)
 }
 
 // Whether the output begins with so many bytes of this digest, and is untouched behind them.
 pub fn digest_agrees(out: &[u8], size: usize, want: u64) -> bool {
-    if out.len() < size {
-        return false;
+    match out.split_at_checked(size) {
+        Some((front, rest)) => digest(front) == want && all_are(rest, DIRTY),
+        None => false,
     }
-    if digest(&out[..size]) == want {
-        return all_u8(&out[size..], DIRTY);
-    }
-    false
 }

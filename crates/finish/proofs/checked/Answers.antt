@@ -1,4 +1,4 @@
--- `finish::checked` meets its contract: the self-check, and the body. Assumes nothing.
+-- `checked` meets its contract: the self-check, and the body. Assumes nothing.
 use native.Mathlib.Omega.{arith}
 use mathlib.Core.Path.{sym, ◌∙◌}
 use mathlib.Core.Bool.{true, false}
@@ -6,10 +6,6 @@ use lib.Seq.{length-take-le}
 use Rattle.mixing.proofs.SlotLaws.{some_buckets}
 use Rattle.finish.proofs.FinishLaws.{chosen_refusal, chosen_out, chosen_written, built_eleven, built_body}
 use Rattle.finish.proofs.checked.Goals as goal
-
-pub slice_bounds-mismatch-end-2 : goal.slice_bounds-mismatch-end-2
-slice_bounds-mismatch-end-2 c = let long = c.requires.0.long in
-    sym (length-take-le c.args.n c.args.wide.now (omega arith))
 
 pub mismatch-requires : goal.mismatch-requires
 mismatch-requires c = let a = c.args in
@@ -24,11 +20,6 @@ returns-then-mismatch c = built_eleven _ _ _ (chosen_refusal _ _ _ _ _ _ c.requi
 pub write_body-requires : goal.write_body-requires
 write_body-requires c = let pre = c.requires in
     (pre.0, chosen_written _ _ _ _ _ _ pre.1 _ c.seed.ensures (sym c.mismatch.ensures ∙ c.if-mismatch.false))
-
-pub overflow_add-result : goal.overflow_add-result
-overflow_add-result c = let room = c.requires.0.room in
-    let e = c.arena_start.ensures in
-    omega arith
 
 pub returns : goal.returns
 returns c = let C = c.requires.1 in

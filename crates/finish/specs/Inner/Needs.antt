@@ -1,16 +1,17 @@
 -- Between the steps: what the functions of finish ask of what they are lent, and what they leave.
-use Rattle.std.specs.Prelude.{ℕ, ◌+◌, ◌-◌, ◌≤◌, ◌<◌, ◌≡◌, cond, List, eqb, length, get_or, take}
+use Rattle.std.specs.Prelude.{ℕ, ◌+◌, ◌-◌, ◌≤◌, ◌<◌, ◌≡◌, cond, List, Result, eqb, length, get_or, take}
 use Rattle.std.proofs.Math.Option.{some}
+use Rattle.numbers.specs.declared.Refusal.{Refusal}
 use Rattle.numbers.specs.Limits.{most_keys}
+use Rattle.numbers.specs.Numbers.{answered}
 use Rattle.words.specs.Field.{splice}
 use Rattle.mixing.specs.Mixing.{hash_of, fingerprint_of}
 use Rattle.records.specs.Places.{entry_place}
 use Rattle.construct.specs.Construct.{buckets_of, Placing}
 use Rattle.construct.specs.Keys.{arena_key, attempt_hashes}
 use Rattle.construct.specs.Inner.Layout.{Entries}
-use Rattle.finish.specs.declared.Finished.{Finished}
 use Rattle.finish.specs.Body.{arena_start, slot_bytes, placed_of, body_of}
-use Rattle.finish.specs.Finish.{answered, body_length, placing_refusal}
+use Rattle.finish.specs.Finish.{body_length, placing_refusal}
 
 -- n entries inside the arena, 2n words of 64 bits, and room for the body
 pub record Room (arena out wide : List ℕ) (n : ℕ) : Type 0 where
@@ -53,6 +54,6 @@ pub record SlotsKnown (arena wide pilots slots : List ℕ) (n seed : ℕ) : Type
   pub slots_filled : Filled n slots
 
 -- the placing of the keys and what was written of it
-pub record BodyPost (arena out : List ℕ) (n : ℕ) (r : Finished) (out' : List ℕ) : Type 0 where
+pub record BodyPost (arena out : List ℕ) (n : ℕ) (r : Result ℕ Refusal) (out' : List ℕ) : Type 0 where
   pub answer : r ≡ answered (placing_refusal arena n) (body_length arena n)
   pub written : out' ≡ cond (eqb (placing_refusal arena n) 0) (splice out 0 (body_of arena n)) out

@@ -4,10 +4,6 @@ use Rattle.fuse.specs.Positions.{positions_of}
 use Rattle.fuse.specs.Asking.{xor_at, contains_of}
 use Rattle.fuse.proofs.contains.Goals as goal
 
-pub xor_cells-requires : goal.xor_cells-requires
-xor_cells-requires c = let s = c in
-    (s.requires.usable, s.requires.whole)
-
 pub returns : goal.returns
 unfolding contains_of
 returns c = let s = c.args in

@@ -4,4 +4,4 @@ use Rattle.fuse.proofs.FitLaws.{fitting_accepted}
 use Rattle.fuse_vectors.proofs.position_agrees.Goals as goal
 
 pub cell-at-requires : goal.cell-at-requires
-cell-at-requires c = ((fitting_accepted c.args.s c.args.cells (sym c.if-fits.ensures)).fits.usable, omega arith)
+cell-at-requires c = ((fitting_accepted c.args.s c.args.cells (sym c.if-not-fits.ensures)).fits.usable, omega arith)

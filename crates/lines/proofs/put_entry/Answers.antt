@@ -1,16 +1,11 @@
 -- `put_entry` writes the line of an entry that shows a record, and nothing of any other. Assumes nothing.
-use mathlib.Core.Path.{sym}
+use mathlib.Core.Path.{sym, ◌∙◌}
+use mathlib.Core.Logic.{⊎_elim}
 use Rattle.records.specs.Places.{entry_at}
 use Rattle.records.proofs.ModelLaws.{found_none, found_whole}
 use Rattle.lines.specs.Shown.{newest_tombstone, shown}
 use Rattle.lines.proofs.LinesLaws.{line_ends, lined_some, lined_none}
 use Rattle.lines.proofs.put_entry.Goals as goal
-
-pub shown_at-found-requires : goal.shown_at-found-requires
-shown_at-found-requires c = c.requires.0
-
-pub key_at-requires : goal.key_at-requires
-key_at-requires c = c.requires.0.whole
 
 pub put_line-end-requires : goal.put_line-end-requires
 unfolding entry_at
@@ -18,9 +13,6 @@ put_line-end-requires c = let a = c.args in
     rw c.key_at.ensures
     (line_ends (entry_at a.body.now a.p).key (shown newest_tombstone a.limit (entry_at a.body.now a.p)) _
     (sym c.in-Found.ensures) c.requires.1)
-
-pub shape_of-out : goal.shape_of-out
-shape_of-out c = c.put_line-end.auto.out
 
 pub returns-in-Found : goal.returns-in-Found
 unfolding entry_at
@@ -32,8 +24,7 @@ returns-in-Found c = let a = c.args in
 pub returns-in-Nothing : goal.returns-in-Nothing
 returns-in-Nothing c = let a = c.args in
     let o = shown newest_tombstone a.limit (entry_at a.body.now a.p) in
-    lined_none (entry_at a.body.now a.p).key o (found_none o (sym c.in-Nothing.ensures))
-
-pub returns-in-Damaged : goal.returns-in-Damaged
-returns-in-Damaged c = let a = c.args in
-    absurd (found_whole (shown newest_tombstone a.limit (entry_at a.body.now a.p)) (sym c.in-Damaged.ensures))
+    ⊎_elim
+    (λ e. lined_none (entry_at a.body.now a.p).key o (found_none o (sym c.shown_at.ensures ∙ e)))
+    (λ e. absurd (found_whole o (sym c.shown_at.ensures ∙ e)))
+    c.in-Nothing.is

@@ -1,5 +1,4 @@
 -- `put_record` writes its pieces one after the other. Assumes nothing.
-use mathlib.Core.Path.{◌∙◌}
 use Rattle.text.proofs.WrittenLaws.{ends_first, ends_second, written_then}
 use Rattle.lines.specs.Listing.{record_text}
 use Rattle.lines.proofs.put_record.Goals as goal
@@ -26,9 +25,6 @@ unfolding record_text
 put_byte-requires c =
     ends_second c.put_field-d.ensures (ends_second c.put_field-c.ensures
     (ends_second c.put_kind-b.ensures (ends_second c.put_field-a.ensures c.requires)))
-
-pub shape_of-out : goal.shape_of-out
-shape_of-out c = c.put_byte.auto.out ∙ c.put_field-d.auto.out ∙ c.put_field-c.auto.out ∙ c.put_kind-b.auto.out ∙ c.put_field-a.auto.out
 
 pub returns : goal.returns
 unfolding record_text

@@ -5,12 +5,12 @@ use Rattle.lines.proofs.put_refused.Goals as goal
 
 pub put_named-next-requires : goal.put_named-next-requires
 unfolding refused_text
-put_named-next-requires c = ends_first _ c.requires
+put_named-next-requires c = ends_first _ (rw (← c.number.ensures) at c.requires)
 
 pub put_byte-requires : goal.put_byte-requires
 unfolding refused_text
-put_byte-requires c = ends_second c.put_named-next.ensures c.requires
+put_byte-requires c = ends_second c.put_named-next.ensures (rw (← c.number.ensures) at c.requires)
 
 pub returns : goal.returns
 unfolding refused_text
-returns c = written_then c.put_named-next.ensures c.put_byte.ensures
+returns c = rw (← c.number.ensures) (written_then c.put_named-next.ensures c.put_byte.ensures)

@@ -1,10 +1,12 @@
 -- Between the steps: what a search has found, read for the rule, what one entry shows, and what the writers leave.
-use Rattle.std.specs.Prelude.{ℕ, ◌≡◌, Bool, false, List, [], length}
+use Rattle.std.specs.Prelude.{ℕ, ◌≡◌, Bool, false, List, [], length, Result}
+use denote.Ref.{MutBor}
+use Rattle.std.specs.Fn.{Shared}
 use Rattle.text.specs.Inner.Written.{WrittenAt}
+use Rattle.numbers.specs.declared.Refusal.{Refusal}
 use Rattle.records.specs.declared.Within.{Within}
 use Rattle.records.specs.declared.Within.TheVariants.{Found, Nothing, Damaged}
 use Rattle.records.specs.Model.{Entry}
-use Rattle.lines.specs.declared.Listed.{Listed}
 use Rattle.lines.specs.declared.Lines.{Lines}
 use Rattle.lines.specs.Shown.{Rule, is_tombstone, shown, Shows, shows_for}
 use Rattle.lines.specs.Listing.{text_of_shown, listed_of, buffer_of}
@@ -25,6 +27,10 @@ pub record Lined (shows : List Shows) (before : List ℕ) (at : ℕ) (after : Li
   pub counted : l.shown ≡ length shows
 
 -- what a call that puts a text into a buffer leaves
-pub record Lists (text before : List ℕ) (r : Listed) (after : List ℕ) : Type 0 where
+pub record Lists (text before : List ℕ) (r : Result ℕ Refusal) (after : List ℕ) : Type 0 where
   pub answer : r ≡ listed_of text before
   pub buffer : after ≡ buffer_of text before
+
+-- a writer puts a text at the start of whatever buffer it is lent
+pub record Puts {F : Type 0} (g : Shared F (MutBor (List ℕ) × Unit {0}) (ℕ × (MutBor (List ℕ) × Unit {0}))) (f : F) (text : List ℕ) : Type 0 where
+  pub puts : (before after : MutBor (List ℕ)) (r : ℕ) → g.post f (before, tt) (r, (after, tt)) → WrittenAt before.now 0 text after.now r

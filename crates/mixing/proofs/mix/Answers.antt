@@ -1,6 +1,7 @@
--- `mix` is its definition, from the two products. Assumes nothing.
+-- `mix` is its definition. Assumes nothing.
+use Rattle.std.proofs.Common.{refl}
 use Rattle.mixrule.specs.Mixing.Opened.{mix_made}
 use Rattle.mixing.proofs.mix.Goals as goal
 
 pub returns : goal.returns
-returns c = mix_made c.args.h c.wrapping_mul-a.result c.wrapping_mul-b.result c.wrapping_mul-a.ensures c.wrapping_mul-b.ensures
+returns c = mix_made c.args.h _ _ refl refl

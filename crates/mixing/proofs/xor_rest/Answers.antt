@@ -1,18 +1,12 @@
 -- `xor_rest` xors in nothing, a short key, or the last eight bytes without those that the last whole word has. Assumes nothing.
-use Rattle.std.proofs.Common.{◌≡◌, ℕ, ◌-◌, ◌*◌, ◌/◌, ◌%◌, ◌^◌, length, drop, sym, ap, ◌∙◌, arith}
+use Rattle.std.proofs.Common.{ℕ, ◌-◌, ◌/◌, ◌%◌, ◌^◌, length, sym, ap, ◌∙◌, arith}
 use lib.Bits.{bit_xor, xor_zero_r}
-use Rattle.mixing.specs.Mixing.{filled}
 use Rattle.mixing.proofs.RestLaws.{rest_none, rest_last}
 use Rattle.mixing.proofs.xor_rest.Goals as goal
 
 pub returns-then-n-eq0 : goal.returns-then-n-eq0
 returns-then-n-eq0 c = let s = c.args in
     sym (ap (bit_xor s.h) (rest_none s.key.now c.if-n-eq0.true) ∙ xor_zero_r s.h)
-
-pub returns-then-n-lt8 : goal.returns-then-n-lt8
-returns-then-n-lt8 c = let s = c.args in
-    let e : 0 ≡ 8 * (length s.key.now / 8) = omega arith in
-    ap (bit_xor s.h) (c.short.ensures ∙ ap (λ (n : ℕ). filled (drop n s.key.now)) e)
 
 pub returns : goal.returns
 returns c = let s = c.args in

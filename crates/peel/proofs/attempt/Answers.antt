@@ -14,16 +14,16 @@ returns-then-n-hashes c = let s = c in
     let a = s.args in
     attempt_short a.g s.requires.0 a.hashes.now a.cells.now _ _ _ _ c.peel_hashes-n.ensures.1 c.if-n-hashes.true
 
-pub fill-requires-2 : goal.fill-requires-2
-fill-requires-2 c = let s = c in
+pub fill-requires-2-clause-graph_whole : goal.fill-requires-2-clause-graph_whole
+fill-requires-2-clause-graph_whole c = let s = c in
     let a = s.args in
     let R = c.peel_hashes-n.ensures.1 in
     let m = length-map a.hashes.now (graph_hash a.g.seed) in
     let n = peeled_fits a.g s.requires.0 a.hashes.now a.cells.now _ _ _ _ R in
-    record {
-      graph_whole = (s.requires.0, search rules, omega (arith, R.wide_room), omega (arith, R.narrow_room));
-      by_index = peeled_below _ _ _ _ _ _ _ _ R;
-    }
+    (s.requires.0, search rules, omega (arith, R.wide_room), omega (arith, R.narrow_room))
+
+pub fill-requires-2-clause-by_index : goal.fill-requires-2-clause-by_index
+fill-requires-2-clause-by_index c = peeled_below _ _ _ _ _ _ _ _ c.peel_hashes-n.ensures.1
 
 pub returns : goal.returns
 returns c = let s = c in
@@ -32,4 +32,4 @@ returns c = let s = c in
     attempt_whole a.g s.requires.0 a.hashes.now a.cells.now _ _ _ _ h.ensures.1 c.if-n-hashes.false _
     (c.fill-2.ensures
     ∙ ap (fill (positions_of a.g.segment a.g.count) (peels_in a.g.cells h.result h.new.wide h.new.narrow))
-    (c.fill.ensures ∙ ap (λ (k : ℕ). replicate k 0) s.requires.4))
+    (c.fill.ensures.after (λ y e. e) ∙ ap (λ (k : ℕ). replicate k 0) s.requires.4))

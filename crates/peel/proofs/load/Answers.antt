@@ -1,5 +1,5 @@
 -- Degrees and xors of the mixed hashes. Assumes nothing.
-use Rattle.std.proofs.Common.{◌≡◌, ℕ, ◌-◌, List, [], length, drop, sym, refl, ◌∙◌, arith, drop_of_length-le, rules}
+use Rattle.std.proofs.Common.{◌-◌, sym, ◌∙◌, arith, rules}
 use lib.ListN.{length-map}
 use Rattle.laws.proofs.Lists.{map_at}
 use Rattle.peel.proofs.TableLaws.{tables_load}
@@ -8,23 +8,13 @@ use Rattle.peel.specs.Peel.{mixed}
 use Rattle.peel.proofs.PlaceLaws.{graph_placed}
 use Rattle.peel.proofs.load.Goals as goal
 
-pub loop-i-init : goal.loop-i-init
-loop-i-init c = let a = c.args in
-    let hs : List ℕ = mixed a.g.seed a.hashes.now in
-    let e : drop (length a.hashes.now) hs ≡ [] = drop_of_length-le hs {i = length a.hashes.now}
-    (omega (arith, length-map a.hashes.now (graph_hash a.g.seed))) in
-    (omega arith, refl, refl, rw e c.requires.2)
-
-pub positions-four-requires : goal.positions-four-requires
-positions-four-requires c = c.requires.0.usable
-
 pub change-requires : goal.change-requires
 change-requires c = let s = c in
     let l = c.loop-i in
     let a = s.args in
     let ps = c.positions-four.ensures in
     let k = graph_placed a.g s.requires.0 _ _ _ c.graph_hash-h.ensures in
-    rw ps ((λ v z. k.below v (omega (arith, l.invariant.3.degrees))), λ v z. k.below v (omega (arith, l.invariant.3.mixes)))
+    rw ps ((λ v z. k.below v (omega (arith, l.invariant.2.degrees))), λ v z. k.below v (omega (arith, l.invariant.2.mixes)))
 
 pub loop-i-preserved : goal.loop-i-preserved
 loop-i-preserved c = let s = c in
@@ -32,16 +22,10 @@ loop-i-preserved c = let s = c in
     let a = s.args in
     let k = c.graph_hash-h.ensures in
     let m = length-map a.hashes.now (graph_hash a.g.seed) in (
-      omega arith,
       search rules,
       search rules,
       tables_load _ a.g.cells (mixed a.g.seed a.hashes.now) _ _ _ _ _ _ l.i (omega arith) (omega arith)
           (k ∙ sym (map_at (graph_hash a.g.seed) a.hashes.now (l.i - 1) (omega arith)))
-          c.positions-four.ensures (graph_placed a.g s.requires.0 _ _ _ k) (omega arith) l.invariant.3 c.change.ensures.0
+          c.positions-four.ensures (graph_placed a.g s.requires.0 _ _ _ k) (omega arith) l.invariant.2 c.change.ensures.0
           c.change.ensures.1,
     )
-
-pub returns : goal.returns
-returns c = let l = c.loop-i in
-    let e : l.i ≡ 0 = omega arith in
-    rw e at l.invariant.3

@@ -1,13 +1,10 @@
 -- Degrees and xors of the mixed hashes. Assumes nothing.
-use Rattle.std.proofs.Common.{◌≡◌, ◌≤◌, length, drop}
+use Rattle.std.proofs.Common.{◌≡◌, length, drop}
 use Rattle.fuse.specs.Positions.{positions_of}
 use Rattle.peel.specs.Peel.{mixed}
 use Rattle.peel.specs.Inner.Table.{Tables}
 use Rattle.peel.proofs.load.Given as goal
 
 abbrev pub invariant-loop-i : goal.invariant-loop-i
-invariant-loop-i l = (l.i ≤ length l.hashes) × (length l.wide ≡ length l.initial.wide) × (length l.narrow ≡ length l.initial.narrow)
+invariant-loop-i l = (length l.wide ≡ length l.initial.wide) × (length l.narrow ≡ length l.initial.narrow)
     × Tables (positions_of l.g.segment l.g.count) l.g.cells (drop l.i (mixed l.g.seed l.hashes)) l.narrow l.wide
-
-abbrev pub decreases-loop-i : goal.decreases-loop-i
-decreases-loop-i l = l.i

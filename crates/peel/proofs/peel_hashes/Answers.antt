@@ -1,5 +1,5 @@
 -- The hashes are loaded, the cells of degree 1 queued, and all steps taken. Assumes nothing.
-use Rattle.std.proofs.Common.{◌≡◌, ℕ, ◌+◌, ◌≤◌, List, [], length, sym, arith, length-take-le, rules}
+use Rattle.std.proofs.Common.{◌≡◌, ℕ, ◌+◌, ◌≤◌, List, [], length, arith, rules}
 use lib.ListN.{length-map}
 use Rattle.fuse.specs.Asking.{graph_hash}
 use Rattle.fuse.specs.Positions.{positions_of}
@@ -7,7 +7,7 @@ use Rattle.peel.specs.Peel.{begun, mixed}
 use Rattle.laws.specs.Count.{rising}
 use Rattle.peel.specs.declared.Graph.{Graph}
 use Rattle.peel.specs.Inner.Table.{GraphWhole, StandsFor, Tables, Queued, queued_by}
-use Rattle.peel.proofs.PlaceLaws.{whole_small, whole_placed}
+use Rattle.peel.proofs.PlaceLaws.{whole_placed}
 use Rattle.peel.proofs.TableLaws.{tables_none, cleared}
 use Rattle.peel.proofs.StepLaws.{ready_start}
 use Rattle.peel.proofs.peel_hashes.Goals as goal
@@ -23,30 +23,21 @@ ready g hashes wide narrow narrow' top whole t q l a b =
     let m = length-map hashes (graph_hash g.seed) in
     ready_start _ g.cells (mixed g.seed hashes) _ narrow _ _ (whole_placed g whole hashes) t q l (omega arith) (omega arith)
 
-pub slice_bounds-clear_u64-end-2 : goal.slice_bounds-clear_u64-end-2
-slice_bounds-clear_u64-end-2 c = let s = c in sym (length-take-le s.args.g.cells s.args.wide.now (omega arith))
-
-pub slice_bounds-clear_u32-end-2 : goal.slice_bounds-clear_u32-end-2
-slice_bounds-clear_u32-end-2 c = let s = c in sym (length-take-le s.args.g.cells s.args.narrow.now (omega arith))
-
 pub load-requires : goal.load-requires
 load-requires c = let s = c in (
   s.requires.0,
   s.requires.1,
-  tables_none _ _ _ _ (search rules) (search rules) (cleared _ s.args.narrow.now _ c.clear_u32.ensures (search rules))
-      (cleared _ s.args.wide.now _ c.clear_u64.ensures (search rules)),
+  tables_none _ _ _ _ (search rules) (search rules) (cleared _ s.args.narrow.now _ (c.fill-2.ensures.after (λ y e. e)) (search rules))
+      (cleared _ s.args.wide.now _ (c.fill.ensures.after (λ y e. e)) (search rules)),
 )
 
-pub queue_ones-top-requires : goal.queue_ones-top-requires
-queue_ones-top-requires c = let s = c in (omega (arith, whole_small s.args.g s.requires.0), search rules)
-
-pub peel_all-requires : goal.peel_all-requires
-peel_all-requires c = let s = c in
+pub peel_all-requires-clause-by_index : goal.peel_all-requires-clause-by_index
+peel_all-requires-clause-by_index c = let s = c in
     let w : length c.load.new.wide ≡ length s.args.wide.now = search rules in
     let n : length c.load.new.narrow ≡ length s.args.narrow.now = search rules in
     let R = ready s.args.g s.args.hashes.now _ _ _ _ s.requires.0 c.load.ensures c.queue_ones-top.ensures (search rules) (omega arith)
     (omega arith) in
-    record { graph_whole = s.requires.0; by_index = (mixed s.args.g.seed s.args.hashes.now, R) }
+    (mixed s.args.g.seed s.args.hashes.now, R)
 
 pub returns : goal.returns
 returns c = let s = c in

@@ -6,8 +6,5 @@ use Rattle.peel.proofs.TableLaws.{Noting}
 use Rattle.peel.proofs.queue_ones.Given as goal
 
 abbrev pub invariant-loop-p : goal.invariant-loop-p
-invariant-loop-p l = (l.p ≤ l.c) × (l.top ≤ l.p)
+invariant-loop-p l = (l.top ≤ l.p)
     × Noting l.c l.initial.narrow (queued_by l.initial.narrow (rising 0 l.c) []) (rising l.p (l.c - l.p)) l.top l.narrow
-
-abbrev pub decreases-loop-p : goal.decreases-loop-p
-decreases-loop-p l = l.c - l.p

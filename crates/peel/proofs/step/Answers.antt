@@ -1,9 +1,9 @@
 -- One step of the peeling. Assumes nothing.
-use Rattle.std.proofs.Common.{◌≡◌, ℕ, suc, ◌+◌, ◌-◌, ◌^◌, ◌<◌, List, length, get_or, ◌∙◌, arith, length-set, rules}
+use Rattle.std.proofs.Common.{◌≡◌, ℕ, suc, ◌+◌, ◌-◌, ◌^◌, ◌<◌, List, length, get_or, arith, length-set, rules}
 use Rattle.peel.specs.Peel.{Attempt}
 use Rattle.peel.specs.Inner.Table.{StandsFor}
 use Rattle.peel.proofs.PlaceLaws.{whole_small}
-use Rattle.peel.proofs.StepLaws.{top_le, ready_empty, cell_under, ready_skip, room_peel, cells_under, narrow_length, wide_length, room_queue, ready_peel, ready_suc}
+use Rattle.peel.proofs.StepLaws.{top_le, ready_empty, cell_under, ready_skip, room_peel, cells_under, narrow_length, room_queue, ready_peel, ready_suc}
 use Rattle.peel.proofs.step.Goals as goal
 
 -- what the caller gave, where the queue is not empty
@@ -40,20 +40,11 @@ offset_bounds-narrow-c c = omega (arith, queue_in _ _ _ _ _ _ _ _ c.if-top-eq0.f
 pub bounds-narrow-c : goal.bounds-narrow-c
 bounds-narrow-c c = queue_in _ _ _ _ _ _ _ _ c.if-top-eq0.false c.requires.by_index.2
 
-pub overflow_cast-p : goal.overflow_cast-p
-overflow_cast-p c = omega (arith, (cell_in _ _ _ _ _ _ _ _ c.if-top-eq0.false c.requires.by_index.2).0)
-
-pub offset_bounds-narrow-p : goal.offset_bounds-narrow-p
-offset_bounds-narrow-p c = omega (arith, (cell_in _ _ _ _ _ _ _ _ c.if-top-eq0.false c.requires.by_index.2).0)
-
 pub bounds-narrow-p : goal.bounds-narrow-p
 bounds-narrow-p c = (cell_in _ _ _ _ _ _ _ _ c.if-top-eq0.false c.requires.by_index.2).0
 
 pub returns-then-narrow-p-ne1 : goal.returns-then-narrow-p-ne1
 returns-then-narrow-p-ne1 c = λ hs s R. ready_skip _ _ hs s _ _ _ _ (ready_suc c.args.at.top c.if-top-eq0.false R) c.if-narrow-p-ne1.true
-
-pub offset_bounds-wide-p : goal.offset_bounds-wide-p
-offset_bounds-wide-p c = omega (arith, (cell_in _ _ _ _ _ _ _ _ c.if-top-eq0.false c.requires.by_index.2).1)
 
 pub bounds-wide-p : goal.bounds-wide-p
 bounds-wide-p c = (cell_in _ _ _ _ _ _ _ _ c.if-top-eq0.false c.requires.by_index.2).1
@@ -67,9 +58,6 @@ offset_bounds-wide-c c = omega (arith, (stack_in _ _ _ _ _ _ _ _ c.if-top-eq0.fa
 pub bounds-wide-c : goal.bounds-wide-c
 bounds-wide-c c = (stack_in _ _ _ _ _ _ _ _ c.if-top-eq0.false c.requires.by_index.2 (omega arith)).0
 
-pub overflow_add-narrow : goal.overflow_add-narrow
-overflow_add-narrow c = omega (arith, (stack_in _ _ _ _ _ _ _ _ c.if-top-eq0.false c.requires.by_index.2 (omega arith)).1)
-
 pub overflow_add-narrow-2 : goal.overflow_add-narrow-2
 overflow_add-narrow-2 c = omega (arith, (stack_in _ _ _ _ _ _ _ _ c.if-top-eq0.false c.requires.by_index.2 (omega arith)).1)
 
@@ -78,9 +66,6 @@ offset_bounds-narrow-c-2 c = omega (arith, (stack_in _ _ _ _ _ _ _ _ c.if-top-eq
 
 pub bounds-narrow-c-2 : goal.bounds-narrow-c-2
 bounds-narrow-c-2 c = (stack_in _ _ _ _ _ _ _ _ c.if-top-eq0.false c.requires.by_index.2 (omega arith)).1
-
-pub positions-four-requires : goal.positions-four-requires
-positions-four-requires c = c.requires.graph_whole.usable
 
 pub change-requires : goal.change-requires
 change-requires c = let R = given _ _ _ _ _ _ _ _ c.if-top-eq0.false c.requires.by_index.2 in
@@ -104,21 +89,6 @@ queue_cells-u-requires c = let g = c in
 
 pub overflow_add-result : goal.overflow_add-result
 overflow_add-result c = omega (arith, (stack_in _ _ _ _ _ _ _ _ c.if-top-eq0.false c.requires.by_index.2 (omega arith)).0)
-
-pub shape_of-wide : goal.shape_of-wide
-shape_of-wide c =
-    let R = given _ _ _ _ _ _ _ _ c.if-top-eq0.false c.requires.by_index.2 in
-    let small : (v : ℕ) → get_or c.args.narrow.now v 0 < 2 ^ 32 = search rules in
-    let k = c.change.ensures in
-    wide_length _ _ _ _ _ _ _ _ R (omega arith) _ c.positions-four.ensures small _ _ k.0 k.1
-
-pub shape_of-narrow : goal.shape_of-narrow
-shape_of-narrow c =
-    let R = given _ _ _ _ _ _ _ _ c.if-top-eq0.false c.requires.by_index.2 in
-    let small : (v : ℕ) → get_or c.args.narrow.now v 0 < 2 ^ 32 = search rules in
-    let k = c.change.ensures in
-    let q : length c.queue_cells-u.new.narrow ≡ length c.change.new.narrow = search rules in
-    q ∙ narrow_length _ _ _ _ _ _ _ _ R (omega arith) _ c.positions-four.ensures small _ _ k.0 k.1
 
 pub returns : goal.returns
 returns c = λ hs s R.

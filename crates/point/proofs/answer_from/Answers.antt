@@ -5,7 +5,7 @@ use Rattle.point.proofs.answer_from.Goals as goal
 
 pub returns-in-Open : goal.returns-in-Open
 returns-in-Open c = let a = c.args in
-    c.answered.ensures ∙ sym (from_open a.body.now a.data_length a.limit _ c.in-Open.v _ c.in-Open.is c.first_within-found.ensures)
+    c.answered.ensures ∙ sym (from_open a.body.now a.data_length a.limit _ c.in-Open.v _ c.in-Open.is c.first_within.ensures)
 
 pub returns-in-Nothing : goal.returns-in-Nothing
 returns-in-Nothing c = sym (from_nothing _ _ c.args.limit _ c.in-Nothing.is)

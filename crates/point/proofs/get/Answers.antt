@@ -8,4 +8,4 @@ use Rattle.point.proofs.get.Goals as goal
 pub returns : goal.returns
 unfolding get_of
 returns c = let a = c.args in
-    c.answer_from.ensures ∙ ap (λ (o : Opened). answer_from a.body.now (length a.«data».now) o a.limit) c.open-opened.ensures
+    c.answer_from.ensures ∙ ap (λ (o : Opened). answer_from a.body.now (length a.«data».now) o a.limit) c.«open».ensures

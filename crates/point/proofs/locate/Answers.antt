@@ -1,20 +1,15 @@
 -- `locate` refuses what 20 and 21 refuse, and goes on by the key's hash. Assumes nothing.
-use mathlib.Core.Path.{sym, ◌∙◌}
-use Rattle.layout.proofs.HeaderLaws.{headed}
+use mathlib.Core.Path.{refl, sym}
+use Rattle.numbers.proofs.NumberLaws.{number_nonzero}
+use Rattle.layout.proofs.HeaderLaws.{seed_is}
 use Rattle.point.proofs.GetLaws.{locate_refused, locate_on}
-use native.Mathlib.Omega.{arith}
 use Rattle.point.proofs.locate.Goals as goal
 
-pub returns-then-header_refusal-ne0 : goal.returns-then-header_refusal-ne0
-returns-then-header_refusal-ne0 c = sym (locate_refused _ _ _ c.header_refusal.ensures c.if-header_refusal-ne0.true)
+pub returns-in-Ok : goal.returns-in-Ok
+returns-in-Ok c =
+    let e = locate_on _ c.args.key.now _ refl (sym c.in-Ok.ensures.refuses) in
+    let s = seed_is _ c.in-Ok.headed.read in
+    cc (e, s, c.in-Ok.ensures.of_body, c.locate_hash.ensures, c.hash.ensures)
 
-pub seed_in-requires : goal.seed_in-requires
-seed_in-requires c = let h = headed _ (sym c.header_refusal.ensures ∙ c.if-header_refusal-ne0.false) in omega arith
-
-pub locate_hash-requires : goal.locate_hash-requires
-locate_hash-requires c = sym c.header_refusal.ensures ∙ c.if-header_refusal-ne0.false
-
-pub returns : goal.returns
-returns c =
-    let e = locate_on _ c.args.key.now _ c.header_refusal.ensures c.if-header_refusal-ne0.false in
-    cc (e, c.locate_hash.ensures, c.hash.ensures, c.seed_in.ensures)
+pub returns-in-Err : goal.returns-in-Err
+returns-in-Err c = sym (locate_refused _ _ _ c.in-Err.ensures.refuses (number_nonzero _))

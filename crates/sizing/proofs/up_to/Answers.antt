@@ -1,25 +1,12 @@
--- `sizing::up_to` meets its contract. The loop's invariant: the place is between low and high.
-use Prim.Native.Nat.{◌+◌, ◌-◌, ◌/◌}
-use native.Mathlib.Omega.{arith}
-use Rattle.sizing.proofs.SearchLaws.{up_to_length, up_to_back, up_to_front}
+-- `sizing::up_to` meets its contract.
+use borrow.Author.Rules.{rules}
+use lib.Dec.{leb}
+use Rattle.std.proofs.lemmas.List.Sorted.{IsPartitionPoint-from_clause}
+use Rattle.sizing.proofs.SearchLaws.{rising_parted, parted_up_to}
 use Rattle.sizing.proofs.up_to.Goals as goal
 
-pub loop-low-init : goal.loop-low-init
-loop-low-init c = omega (arith, up_to_length c.args.table.now c.args.n)
-
-pub loop-low-preserved-then-wide-n : goal.loop-low-preserved-then-wide-n
-loop-low-preserved-then-wide-n c = let s = c in
-    let a = s.args in
-    let l = c.loop-low in
-    omega (
-      arith,
-      up_to_front a.table.now s.requires a.n (l.low + (l.high - l.low) / 2) (omega arith) (omega (arith, c.wide.ensures)),
-    )
-
-pub loop-low-preserved : goal.loop-low-preserved
-loop-low-preserved c = let a = c.args in
-    let l = c.loop-low in
-    omega (
-      arith,
-      up_to_back a.table.now a.n (l.low + (l.high - l.low) / 2) (omega arith) (omega (arith, c.wide.ensures)),
-    )
+pub returns : goal.returns
+returns c = let n = c.args.n in
+    let found = c.partition_point.ensures in
+    parted_up_to _ c.requires n _ found.bound
+    (IsPartitionPoint-from_clause (λ x. leb x n) _ _ found.partitioned (rising_parted _ c.requires n) (λ x r g h. search rules))

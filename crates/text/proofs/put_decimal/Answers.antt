@@ -1,15 +1,21 @@
--- `put_decimal` writes the digits that `digits_of` laid. Assumes nothing.
-use Prim.Native.Nat.{◌≤◌}
-use native.Mathlib.Omega.{arith}
-use lib.ListN.{length}
-use Rattle.text.proofs.TextLaws.{laid_part}
+-- `put_decimal` lays the digits down from the array's end. The loop's invariant: the digits of what is left, with those laid, are the number's. Assumes nothing.
+use Rattle.std.proofs.Common.{◌≤◌, arith, length-set, ◌∙◌}
+use Rattle.text.proofs.TextLaws.{digits_room, digits_on, digits_end}
 use Rattle.text.proofs.put_decimal.Goals as goal
 
-pub slice_bounds-put_word-end : goal.slice_bounds-put_word-end
-slice_bounds-put_word-end c = let e : 20 ≤ length c.digits_of-d.result.bytes = omega (arith, c.digits_of-d.ensures.whole) in e
+pub overflow_sub-from : goal.overflow_sub-from
+overflow_sub-from c = let l = c.loop-rest in let v = l.invariant in
+    digits_room _ l.rest l.from l.digits v.whole v.here v.laid (omega arith) c.loop-rest-test.true
+
+pub loop-rest-preserved : goal.loop-rest-preserved
+loop-rest-preserved c = let l = c.loop-rest in let v = l.invariant in
+    let f : 1 ≤ l.from = digits_room _ l.rest l.from l.digits v.whole v.here v.laid (omega arith) (omega arith) in
+    record { whole = length-set l.digits l.from _ ∙ v.whole; here = omega arith; laid = digits_on _ l.rest l.from l.digits v.whole v.here v.laid (omega arith) f }
 
 pub put_word-requires : goal.put_word-requires
-put_word-requires c = rw (laid_part c.digits_of-d.ensures) c.requires
+put_word-requires c = let l = c.loop-rest in let v = l.invariant in
+    rw (digits_end _ l.rest l.from l.digits v.whole v.here v.laid (omega arith)) c.requires
 
 pub returns : goal.returns
-returns c = rw (laid_part c.digits_of-d.ensures) at c.put_word.ensures
+returns c = let l = c.loop-rest in let v = l.invariant in
+    rw (digits_end _ l.rest l.from l.digits v.whole v.here v.laid (omega arith)) at c.put_word.ensures

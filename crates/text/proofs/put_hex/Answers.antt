@@ -1,43 +1,22 @@
--- `put_hex` writes its bytes in hex. The loop's invariant: putting the rest from here on gives what putting the whole gives. Assumes nothing.
-use native.Mathlib.Omega.{arith}
-use mathlib.Core.Path.{refl, sym, ◌∙◌}
+-- `put_hex` writes its bytes in hex. The loop's invariant: the bytes so far are written. Assumes nothing.
+use Rattle.std.proofs.Common.{ℕ, take, refl, sym, add-zero, add-one, arith, length-take-le}
+use Rattle.text.specs.Text.{hex_of}
 use Rattle.text.proofs.TextLaws.{hex_length}
-use Rattle.text.proofs.WrittenLaws.{hex_step, hex_done}
-use borrow.Author.Rules.{rules}
+use Rattle.text.proofs.WrittenLaws.{written_then, hex_more}
 use Rattle.text.proofs.put_hex.Goals as goal
 
-pub loop-i-init : goal.loop-i-init
-loop-i-init c = (search rules, search rules, refl, refl)
+pub loop-b-init : goal.loop-b-init
+unfolding hex_of
+loop-b-init c = record { buffer = refl; place = sym (add-zero _) }
 
-pub hex_digit-requires : goal.hex_digit-requires
-hex_digit-requires c = let b = (c.type_inv.bytes c.loop-i.i).fits in omega arith
+pub put_byte-p-requires : goal.put_byte-p-requires
+put_byte-p-requires c = let i : ℕ = c.loop-b.b-index in let s = c.args.bytes.now in
+    record { inside = omega (arith, hex_length (take i s), hex_length s, length-take-le i s (omega arith)) }
 
-pub overflow_add-p : goal.overflow_add-p
-overflow_add-p c = omega (arith, hex_length c.args.bytes.now, c.loop-i.invariant.1, c.requires.inside, c.loop-i-test)
+pub put_byte-p-requires-in-loop-b : goal.put_byte-p-requires-in-loop-b
+put_byte-p-requires-in-loop-b c = let i : ℕ = c.loop-b.b-index in let s = c.args.bytes.now in
+    record { inside = omega (arith, hex_length (take i s), hex_length s, length-take-le i s (omega arith)) }
 
-pub hex_digit-requires-in-loop-i : goal.hex_digit-requires-in-loop-i
-hex_digit-requires-in-loop-i c = omega arith
-
-pub overflow_add-p-in-loop-i : goal.overflow_add-p-in-loop-i
-overflow_add-p-in-loop-i c = omega (arith, hex_length c.args.bytes.now, c.loop-i.invariant.1, c.requires.inside, c.loop-i-test)
-
-pub loop-i-preserved : goal.loop-i-preserved
-loop-i-preserved c = let l = c.loop-i in
-    let s = c.args in
-    let t = c.loop-i-test in (
-      omega (arith, t),
-      omega (arith, l.invariant.1),
-      rw (c.store-in-loop-i.ensures, c.store.ensures) (hex_step l.out l.p l.i _ _ s.bytes.now (omega (arith, t)) c.hex_digit.ensures c.hex_digit-in-loop-i.ensures ∙ l.invariant.2),
-      c.store-in-loop-i.auto.out ∙ c.store.auto.out ∙ l.invariant.3,
-    )
-
-pub shape_of-out : goal.shape_of-out
-shape_of-out c = c.loop-i.invariant.3
-
-pub returns : goal.returns
-returns c = let l = c.loop-i in
-    let s = c.args in
-    record {
-      buffer = sym (hex_done l.out l.p l.i s.bytes.now (omega arith)) ∙ l.invariant.2;
-      place = omega (arith, hex_length s.bytes.now);
-    }
+pub loop-b-preserved : goal.loop-b-preserved
+loop-b-preserved c = rw (add-one, hex_more c.args.bytes.now c.loop-b.b-index _ _ (omega arith) c.hex_digit.ensures c.hex_digit-in-loop-b.ensures)
+    (written_then (written_then c.loop-b.invariant c.put_byte-p.ensures) c.put_byte-p-in-loop-b.ensures)

@@ -3,13 +3,13 @@ use Rattle.text.proofs.TextLaws.{key_text_none, key_text_some}
 use Rattle.text.proofs.put_key.Goals as goal
 
 pub put_byte-requires : goal.put_byte-requires
-put_byte-requires c = rw (key_text_none _ c.if-key-eq0.true) at c.requires
+put_byte-requires c = rw (key_text_none _ c.if-is_empty.ensures) at c.requires
 
-pub returns-then-key-eq0 : goal.returns-then-key-eq0
-returns-then-key-eq0 c = rw (key_text_none _ c.if-key-eq0.true) c.put_byte.ensures
+pub returns-then-is_empty : goal.returns-then-is_empty
+returns-then-is_empty c = rw (key_text_none _ c.if-is_empty.ensures) c.put_byte.ensures
 
 pub put_hex-requires : goal.put_hex-requires
-put_hex-requires c = rw (key_text_some _ c.if-key-eq0.false) at c.requires
+put_hex-requires c = rw (key_text_some _ c.if-is_empty.ensures) at c.requires
 
 pub returns : goal.returns
-returns c = rw (key_text_some _ c.if-key-eq0.false) c.put_hex.ensures
+returns c = rw (key_text_some _ c.if-is_empty.ensures) c.put_hex.ensures

@@ -1,8 +1,7 @@
 -- Between the steps: what a writer asks for and leaves, a text put from a place on as far as the buffer reaches. An empty buffer is thus a
 -- measure of the text's length.
-use Rattle.std.specs.Prelude.{ℕ, ◌+◌, ◌^◌, ◌<◌, ◌≡◌, List, length, drop}
+use Rattle.std.specs.Prelude.{ℕ, ◌+◌, ◌^◌, ◌<◌, ◌≡◌, List, length}
 use Rattle.std.proofs.lemmas.List.Edits.{sets}
-use Rattle.text.specs.Text.{decimal}
 
 -- the text from `at` on ends at a place that can be named
 pub record Ends (at : ℕ) (text : List ℕ) : Type 0 where
@@ -12,9 +11,3 @@ pub record Ends (at : ℕ) (text : List ℕ) : Type 0 where
 pub record WrittenAt (before : List ℕ) (at : ℕ) (text after : List ℕ) (end : ℕ) : Type 0 where
   pub buffer : after ≡ sets before at text
   pub place : end ≡ at + length text
-
--- the digits of n stand at the end of an array of 20 bytes
-pub record DigitsLaid (n from : ℕ) (bytes : List ℕ) : Type 0 where
-  pub here : from < 20
-  pub whole : length bytes ≡ 20
-  pub digits : drop from bytes ≡ decimal n

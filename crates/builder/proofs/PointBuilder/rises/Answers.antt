@@ -1,7 +1,7 @@
 -- `PointBuilder::rises` answers whether the key is greater than the last, by the comparison of the two. Assumes nothing.
 use native.Mathlib.Omega.{arith}
 use borrow.Author.Tests.{eq-eqb}
-use Rattle.words.specs.declared.part.Order.TheVariants.{Less, Equal, Greater}
+use mathlib.Core.Path.{◌∙◌}
 use Rattle.builder.specs.Add.{rises_after}
 use Rattle.builder.proofs.StateLaws.{fits_known}
 use Rattle.builder.proofs.AddLaws.{rises_known}
@@ -16,11 +16,5 @@ key_at-requires c = let s = c.args in
     let f = fits_known s.self s.buffer.now c.if-self-eq0.false c.requires in
     omega arith
 
-pub returns-in-Less : goal.returns-in-Less
-returns-in-Less c = let s = c.args in rises_known s.self s.buffer.now s.key.now c.if-self-eq0.false Less (cc)
-
-pub returns-in-Equal : goal.returns-in-Equal
-returns-in-Equal c = let s = c.args in rises_known s.self s.buffer.now s.key.now c.if-self-eq0.false Equal (cc)
-
-pub returns-in-Greater : goal.returns-in-Greater
-returns-in-Greater c = let s = c.args in rises_known s.self s.buffer.now s.key.now c.if-self-eq0.false Greater (cc)
+pub returns-else-self-eq0 : goal.returns-else-self-eq0
+returns-else-self-eq0 c = let s = c.args in c.is_lt.ensures ∙ rises_known s.self s.buffer.now s.key.now c.if-self-eq0.false _ (cc)

@@ -1,17 +1,16 @@
 -- `construct::place::place_of` meets its contract. A bucket of another size is passed over. Assumes nothing.
+use mathlib.Core.Path.{sym, ◌∙◌, subst}
+use mathlib.Core.Option.{Option}
 use native.Mathlib.Omega.{arith}
-use Rattle.construct.proofs.BenchLaws.{bench_inside, of_other, of_same}
+use Rattle.construct.specs.Construct.{Placing}
+use Rattle.construct.specs.Inner.Layout.{Went}
+use Rattle.construct.proofs.Placed.{of_skips, of_several}
 use Rattle.construct.proofs.place.place_of.Goals as goal
 
-pub overflow_sub-narrow : goal.overflow_sub-narrow
-overflow_sub-narrow c = omega (arith, bench_inside _ _ _ _ c.requires.bench _ c.requires.k_lt_b)
-
-pub returns-then-narrow-k : goal.returns-then-narrow-k
-returns-then-narrow-k c = let pre = c.requires in
-    of_other _ _ _ _ pre.bench _ pre.k_lt_b _ c.if-narrow-k.true
+pub returns-then-size-s : goal.returns-then-size-s
+returns-then-size-s c = of_skips _ _ _ _ (λ e. c.if-size-s.true (c.size.ensures ∙ e))
 
 pub returns : goal.returns
-returns c = let pre = c.requires in
-    let if1 = c.if-narrow-k in
-    let place-group = c.place_group in
-    of_same _ _ _ _ pre.bench _ pre.k_lt_b _ place-group.new.narrow place-group.result pre.lt_s if1.false place-group.ensures
+returns c = let p = c.place_group in
+    subst (λ (o : Option Placing). Went o p.new.pilots p.new.slots p.result)
+    (sym (of_several _ _ _ _ (sym c.size.ensures ∙ c.if-size-s.false) (λ e. omega (arith, e, c.requires.lt_s)))) p.ensures

@@ -1,6 +1,6 @@
 -- `construct::seat::find_pilot` meets its contract. The loop's invariant: no pilot before p seats the members, and the slots are as they
 -- were. Assumes nothing.
-use Prim.Native.Nat.{ℕ, ◌-◌, ◌≤◌, ◌<◌}
+use Prim.Native.Nat.{ℕ, ◌<◌}
 use mathlib.Core.Path.{◌≡◌}
 use mathlib.Core.Option.{none}
 use lib.ListN.{length}
@@ -8,8 +8,4 @@ use Rattle.construct.specs.Construct.{seat}
 use Rattle.construct.proofs.seat.find_pilot.Given as goal
 
 abbrev pub invariant-loop-p : goal.invariant-loop-p
-invariant-loop-p l =
-    (l.p ≤ 100000) × (l.slots ≡ l.initial.slots) × ((q : ℕ) → q < l.p → seat l.hs l.ms q (length l.ms) l.initial.slots ≡ none)
-
-abbrev pub decreases-loop-p : goal.decreases-loop-p
-decreases-loop-p l = 100000 - l.p
+invariant-loop-p l = (l.slots ≡ l.initial.slots) × ((q : ℕ) → q < l.p → seat l.members.hashes.now l.members.keys.now q (length l.members.keys.now) l.initial.slots ≡ none)

@@ -1,16 +1,11 @@
 -- `construct::seat::unseat` meets its contract. The loop's invariant: of the members that sat, the first j still do. Assumes nothing.
-use Prim.Native.Nat.{ℕ, ◌≤◌}
+use Prim.Native.Nat.{ℕ}
 use mathlib.Core.Path.{◌≡◌}
 use mathlib.Core.List.{List}
 use mathlib.Core.Option.{some}
-use lib.ListN.{length}
 use Rattle.construct.specs.Construct.{seat}
 use Rattle.construct.proofs.seat.unseat.Given as goal
 
 abbrev pub invariant-loop-j : goal.invariant-loop-j
 invariant-loop-j l =
-    (l.j ≤ length l.ms) × (length l.slots ≡ length l.initial.slots)
-    × ((s : List ℕ) → seat l.hs l.ms l.pilot l.count s ≡ some l.initial.slots → seat l.hs l.ms l.pilot l.j s ≡ some l.slots)
-
-abbrev pub decreases-loop-j : goal.decreases-loop-j
-decreases-loop-j l = l.j
+    (s : List ℕ) → seat l.members.hashes.now l.members.keys.now l.pilot l.count s ≡ some l.initial.slots → seat l.members.hashes.now l.members.keys.now l.pilot l.j s ≡ some l.slots

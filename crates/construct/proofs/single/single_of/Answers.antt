@@ -1,46 +1,26 @@
 -- `construct::single::single_of` meets its contract. The lowest free slot is looked for where the last search stopped. Assumes nothing.
+use mathlib.Core.Path.{refl, sym, ap, ◌∙◌}
 use native.Mathlib.Omega.{arith}
-use Rattle.construct.proofs.BenchLaws.{bench_inside}
-use Rattle.construct.proofs.SinglesLaws.{single_other, lent_taken, single_full, single_low, single_put}
+use lib.ListN.{length, length-set}
+use Rattle.construct.specs.Construct.{group, size}
+use Rattle.construct.proofs.Placed.{of_skips}
+use Rattle.construct.proofs.StepLaws.{single_none, single_some, filled_more}
 use Rattle.construct.proofs.single.single_of.Goals as goal
 
-pub overflow_sub-narrow : goal.overflow_sub-narrow
-overflow_sub-narrow c = omega (arith, bench_inside _ _ _ _ c.requires.bench _ c.requires.k_lt_b.0)
+pub returns-then-size-ne1 : goal.returns-then-size-ne1
+returns-then-size-ne1 c = (c.requires.filled.0, of_skips _ _ _ _ (λ e. c.if-size-ne1.true (c.size.ensures ∙ e)), c.requires.filled.1)
 
-pub returns-then-narrow-k-ne1 : goal.returns-then-narrow-k-ne1
-returns-then-narrow-k-ne1 c = let pre = c.requires in
-    single_other _ _ _ _ pre.bench _ pre.k_lt_b.0 _ pre.k_lt_b.1 pre.k_lt_b.2 c.if-narrow-k-ne1.true
+pub returns-in_err-at : goal.returns-in_err-at
+returns-in_err-at c =
+    rw c.from_residual.ensures (single_none _ (group c.args.keys.hashes.now c.args.k) _ _ _ refl (sym c.size.ensures ∙ c.if-size-ne1.false) c.requires.ready.slots_long c.in_err-at.ensures)
 
-pub next_free-at-requires : goal.next_free-at-requires
-next_free-at-requires c = let pre = c.requires in
-    lent_taken _ _ _ _ pre.bench _ pre.k_lt_b.0 _ c.slots.ensures _ pre.k_lt_b.1 pre.k_lt_b.2
-
-pub returns-then-at-n : goal.returns-then-at-n
-returns-then-at-n c = let pre = c.requires in
-    let if1 = c.if-narrow-k-ne1 in
-    let slots = c.slots in
-    let next-free = c.next_free-at in
-    single_full _ _ _ _ pre.bench _ pre.k_lt_b.0 _ slots.ensures if1.false _ next-free.ensures c.if-at-n.true
-
-pub put_single-requires : goal.put_single-requires
-put_single-requires c = let pre = c.requires in
-    let if1 = c.if-narrow-k-ne1 in
-    let slots = c.slots in
-    let next-free = c.next_free-at in
-    record {
-      bench = pre.bench;
-      k_lt_b = (
-        pre.k_lt_b.0,
-        if1.false,
-        single_low _ _ _ _ pre.bench _ pre.k_lt_b.0 _ slots.ensures if1.false _ next-free.ensures c.if-at-n.false,
-      );
-    }
+pub bounds-group-0 : goal.bounds-group-0
+unfolding size
+bounds-group-0 c = omega (arith, ap length c.group.ensures.keys, c.size.ensures, c.if-size-ne1.false)
 
 pub returns : goal.returns
-returns c = let pre = c.requires in
-    let if1 = c.if-narrow-k-ne1 in
-    let slots = c.slots in
-    let next-free = c.next_free-at in
-    let if2 = c.if-at-n in
-    let put-single = c.put_single in
-    single_put _ _ _ _ pre.bench _ pre.k_lt_b.0 _ slots.ensures if1.false _ next-free.ensures if2.false _ put-single.ensures
+returns c = let low = c.in_ok-at.ensures in (
+  simp length-set (omega (arith, low.0)),
+  single_some _ _ _ _ _ c.group.ensures.keys (sym c.size.ensures ∙ c.if-size-ne1.false) c.requires.ready.slots_long _ low,
+  filled_more _ _ _ low,
+)

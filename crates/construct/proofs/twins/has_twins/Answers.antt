@@ -7,18 +7,15 @@ use Rattle.construct.specs.Construct.{twins}
 use Rattle.construct.proofs.twins.has_twins.Goals as goal
 
 pub loop-j-init : goal.loop-j-init
-loop-j-init c = (omega arith, any_none _)
+loop-j-init c = any_none _
 
 pub returns-then-met_before : goal.returns-then-met_before
 unfolding twins
-returns-then-met_before c = let l = c.loop-j in
-    sym (any_some _ l.j _ c.loop-j-test.true (sym c.met_before.ensures ∙ c.if-met_before.true))
+returns-then-met_before c = sym (any_some _ c.loop-j.j _ c.loop-j-test.true (sym c.met_before.ensures ∙ c.if-met_before.true))
 
 pub loop-j-preserved : goal.loop-j-preserved
-loop-j-preserved c = let l = c.loop-j in
-    (omega arith, any_miss _ l.j (sym c.met_before.ensures ∙ c.if-met_before.false) l.invariant.1)
+loop-j-preserved c = any_miss _ c.loop-j.j (sym c.met_before.ensures ∙ c.if-met_before.false) c.loop-j.invariant
 
 pub returns : goal.returns
 unfolding twins
-returns c = let l = c.loop-j in
-    sym (ap (any_below _) (omega arith) ∙ l.invariant.1)
+returns c = sym (ap (any_below _) (omega arith) ∙ c.loop-j.invariant)

@@ -8,27 +8,18 @@ use Rattle.construct.specs.Construct.{alike, met}
 use Rattle.construct.proofs.twins.met_before.Goals as goal
 
 pub loop-i-init : goal.loop-i-init
-loop-i-init c = (omega arith, any_none _)
+loop-i-init c = any_none _
 
-pub returns-then-hash_of-x : goal.returns-then-hash_of-x
+pub returns-then-hash-x : goal.returns-then-hash-x
 unfolding met alike
-returns-then-hash_of-x c = let l = c.loop-i in
-    let hash_of_lem = c.hash_of-x in
-    let loop-test = c.loop-i-test in
-    let hash-of2 = c.hash_of in
-    sym (any_some _ l.i _ loop-test.true (eq-eqb _ _ (sym hash-of2.ensures ∙ c.if-hash_of-x.true ∙ hash_of_lem.ensures)))
-
-pub loop-i-smaller : goal.loop-i-smaller
-loop-i-smaller c = omega arith
+returns-then-hash-x c =
+    sym (any_some _ c.loop-i.i _ c.loop-i-test.true (eq-eqb _ _ (sym c.hash.ensures ∙ c.if-hash-x.true ∙ c.hash-x.ensures)))
 
 pub loop-i-preserved : goal.loop-i-preserved
 unfolding alike
-loop-i-preserved c = let l = c.loop-i in
-    let hash_of_lem = c.hash_of-x in
-    let hash-of2 = c.hash_of in
-    (omega arith, any_miss _ l.i (ne_eqb _ _ (λ e. c.if-hash_of-x.false (hash-of2.ensures ∙ e ∙ sym hash_of_lem.ensures))) l.invariant.1)
+loop-i-preserved c =
+    any_miss _ c.loop-i.i (ne_eqb _ _ (λ e. c.if-hash-x.false (c.hash.ensures ∙ e ∙ sym c.hash-x.ensures))) c.loop-i.invariant
 
 pub returns : goal.returns
 unfolding met
-returns c = let l = c.loop-i in
-    sym (ap (any_below _) (omega arith) ∙ l.invariant.1)
+returns c = sym (ap (any_below _) (omega arith) ∙ c.loop-i.invariant)

@@ -1,5 +1,4 @@
 -- `construct::twins::met_before` meets its contract. The loop's invariant: no member before i has the hash. Assumes nothing.
-use Prim.Native.Nat.{◌-◌, ◌≤◌}
 use mathlib.Core.Path.{◌≡◌}
 use mathlib.Core.Bool.{false}
 use Rattle.laws.specs.Steps.{any_below}
@@ -7,7 +6,4 @@ use Rattle.construct.specs.Construct.{alike}
 use Rattle.construct.proofs.twins.met_before.Given as goal
 
 abbrev pub invariant-loop-i : goal.invariant-loop-i
-invariant-loop-i l = (l.i ≤ l.j) × (any_below (alike l.hs l.ms l.j) l.i ≡ false)
-
-abbrev pub decreases-loop-i : goal.decreases-loop-i
-decreases-loop-i l = l.j - l.i
+invariant-loop-i l = any_below (alike l.members.hashes.now l.members.keys.now l.j) l.i ≡ false

@@ -1,4 +1,4 @@
--- `finish::body::write_body` meets its contract: header and pilots, slots, arena, each right behind the last. Assumes nothing.
+-- `write_body` meets its contract: header and pilots, slots, arena, each right behind the last. Assumes nothing.
 use native.Mathlib.Omega.{arith}
 use Rattle.finish.proofs.BodyLaws.{room_start, slots_asked, body_written}
 use Rattle.finish.proofs.body.write_body.Goals as goal
@@ -11,13 +11,6 @@ write_front-requires c = let pre = c.requires in
 pub write_slots-requires : goal.write_slots-requires
 write_slots-requires c = let pre = c.requires in
     slots_asked _ _ _ _ _ c.list_places.new.wide c.write_front.new.out _ _ pre.0 pre.1 c.list_places.auto.wide c.write_front.auto.out
-
-pub copy_at-requires : goal.copy_at-requires
-copy_at-requires c = let room = c.requires.0.room in
-    let e = c.arena_start.ensures in
-    let k = c.write_slots.auto.out in
-    let j = c.write_front.auto.out in
-    omega arith
 
 pub returns : goal.returns
 returns c = let pre = c.requires in

@@ -5,23 +5,15 @@ use Rattle.fuse.proofs.HeaderLaws.{fuse_header_written}
 use Rattle.fuse.proofs.header.put_header.Goals as goal
 
 pub returns : goal.returns
-returns c = let c₈ = c in
-    let c₇ = c₈ in
-    let c₆ = c₇ in
-    let c₅ = c₆ in
-    let c₄ = c₅ in
-    let c₃ = c₄ in
-    let c₂ = c₃ in
-    let c₁ = c₂ in
-    let a = c₁.args in
+returns c = let a = c.args in
     let s = a.s in
-    let n : ℕ = c₁.cells-cells.result in
+    let n : ℕ = c.cells-cells.result in
     let put : ℕ → List ℕ → List ℕ → List ℕ = λ at q t. splice t at q in
-    c₈.put_u32-4.ensures ∙ ap (put 44 (bytes_of 4 n)) (
-    c₇.put_u32-3.ensures ∙ ap (put 40 (bytes_of 4 n)) (
-    c₆.put_u32-2.ensures ∙ ap (put 36 (bytes_of 4 s.count)) (
-    c₅.put_u32.ensures ∙ ap (put 32 (bytes_of 4 s.segment)) (
-    c₄.put_u64-4.ensures ∙ ap (put 24 (bytes_of 8 s.seed)) (
-    c₃.put_u64-3.ensures ∙ ap (put 16 (bytes_of 8 s.keys)) (
-    c₂.put_u64-2.ensures ∙ ap (put 8 (bytes_of 8 0x0000_0030_0801_0201)) c₁.put_u64.ensures))))))
-    ∙ fuse_header_written s n a.out.now c₁.cells-cells.ensures c₁.requires.0
+    c.put_u32-4.ensures ∙ ap (put 44 (bytes_of 4 n)) (
+    c.put_u32-3.ensures ∙ ap (put 40 (bytes_of 4 n)) (
+    c.put_u32-2.ensures ∙ ap (put 36 (bytes_of 4 s.count)) (
+    c.put_u32.ensures ∙ ap (put 32 (bytes_of 4 s.segment)) (
+    c.put_u64-4.ensures ∙ ap (put 24 (bytes_of 8 s.seed)) (
+    c.put_u64-3.ensures ∙ ap (put 16 (bytes_of 8 s.keys)) (
+    c.put_u64-2.ensures ∙ ap (put 8 (bytes_of 8 0x0000_0030_0801_0201)) c.put_u64.ensures))))))
+    ∙ fuse_header_written s n a.out.now c.cells-cells.ensures c.requires.0

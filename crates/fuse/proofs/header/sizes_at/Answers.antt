@@ -5,8 +5,8 @@ use Rattle.fuse.proofs.header.sizes_at.Goals as goal
 pub returns : goal.returns
 unfolding sizes_in
 returns c = λ i. record {
-  keys = c.u64_at-keys.ensures i;
-  seed = c.u64_at-seed.ensures i;
-  segment = c.u32_at-segment.ensures i;
-  count = c.u32_at-count.ensures i;
+  keys = c.u64_at.ensures i;
+  seed = c.u64_at-2.ensures i;
+  segment = c.u32_at.ensures i;
+  count = c.u32_at-2.ensures i;
 }

@@ -1,9 +1,9 @@
 -- `kiban_add` answers its own three checks, and then what add answers. Assumes nothing.
+use Rattle.std.specs.Prelude.{Err, Ok}
 use native.Mathlib.Omega.{arith}
 use mathlib.Core.Path.{refl, sym}
 use Rattle.words.proofs.Laws.{splice_sets}
 use Rattle.records.proofs.KindLaws.{kind_unknown, kind_known}
-use Rattle.builder.specs.declared.Added.TheVariants.{Taken, Refused}
 use Rattle.builder.specs.Add.{added_values}
 use Rattle.finish.proofs.RowLaws.{splice_none}
 use Rattle.kiban_c.proofs.BuilderCallLaws.{add_short, add_stateless, add_kindless, add_passed, add_refused, add_made}
@@ -22,16 +22,16 @@ returns-in_default c = let a = c.args in
     let k = kind_unknown a.kind (sym c.in_default.ensures) in
     add_refused (add_kindless a.state.now a.kind a.answer.now c.if-answer-lt1.false c.if-state-lt3.false k) (omega arith)
 
-pub returns-in-Taken : goal.returns-in-Taken
-returns-in-Taken c = let a = c.args in
+pub returns-in-Ok : goal.returns-in-Ok
+returns-in-Ok c = let a = c.args in
     let some = c.if-answer-lt1.false in
-    let k = kind_known a.kind c.in-Known.known (sym c.in-Known.ensures) in
-    let n = c.in-Taken in
-    add_made {r = Taken n.next n.place} (add_passed a.state.now a.kind a.answer.now some c.if-state-lt3.false k.0) c.state_of-from.ensures (sym k.1) n.ensures refl c.put_words.ensures
-    (splice_sets a.answer.now 0 (added_values (Taken n.next n.place)) (omega arith))
+    let k = kind_known a.kind c.in-Some.known (sym c.in-Some.ensures) in
+    let n = c.in-Ok in
+    add_made {r = Ok (n.next, n.place)} (add_passed a.state.now a.kind a.answer.now some c.if-state-lt3.false k.0) c.state_of-from.ensures (sym k.1) n.ensures refl c.put_words.ensures
+    (splice_sets a.answer.now 0 (added_values (Ok (n.next, n.place))) (omega arith))
 
-pub returns-in-Refused : goal.returns-in-Refused
-returns-in-Refused c = let a = c.args in
-    let k = kind_known a.kind c.in-Known.known (sym c.in-Known.ensures) in
-    let n = c.in-Refused in
-    add_made {r = Refused n.n} (add_passed a.state.now a.kind a.answer.now c.if-answer-lt1.false c.if-state-lt3.false k.0) c.state_of-from.ensures (sym k.1) n.ensures refl (sym (splice_none _ 0)) (sym (splice_none _ 0))
+pub returns-in-Err : goal.returns-in-Err
+returns-in-Err c = let a = c.args in
+    let k = kind_known a.kind c.in-Some.known (sym c.in-Some.ensures) in
+    let n = c.in-Err in
+    rw c.number.ensures (add_made {r = Err n.refusal} (add_passed a.state.now a.kind a.answer.now c.if-answer-lt1.false c.if-state-lt3.false k.0) c.state_of-from.ensures (sym k.1) n.ensures refl (sym (splice_none _ 0)) (sym (splice_none _ 0)))

@@ -20,7 +20,7 @@ bounds-answers-i c = omega (arith, pasting_length c.loop-i.invariant)
 pub loop-i-preserved : goal.loop-i-preserved
 loop-i-preserved c = let a = c.args in
     each_more (cells_ask_of a.s a.cells.now) a.hashes.now c.loop-i.invariant _ c.loop-i-test.true
-    (c.number.ensures ∙ ap ask_number c.ask_cells.ensures)
+    (c.ask_number.ensures ∙ ap ask_number c.ask_cells.ensures)
 
 pub shape_of-answers : goal.shape_of-answers
 shape_of-answers c = pasting_length c.loop-i.invariant

@@ -4,4 +4,4 @@ use Rattle.filter.specs.Asking.{ask_number}
 use Rattle.kiban_c.proofs.filter_calls.kiban_filter_ask.Goals as goal
 
 pub returns : goal.returns
-returns c = c.number.ensures ∙ ap ask_number c.ask.ensures
+returns c = c.ask_number.ensures ∙ ap ask_number c.ask.ensures

@@ -25,7 +25,7 @@ slice_bounds-ask_each-start c = let z = c.in-Fuse in
     omega (arith, (fuse_cells c.args.bytes.now z.s (sym z.ensures)).0)
 
 pub returns-in-Positive : goal.returns-in-Positive
-returns-in-Positive c = all_positive c.if-answers-hashes.false _ (sym c.in-Positive.ensures) c.fill.ensures
+returns-in-Positive c = all_positive c.if-answers-hashes.false _ (sym c.in-Positive.ensures) (c.fill.ensures.after (λ y e. e))
 
 pub returns-in-Fuse : goal.returns-in-Fuse
 returns-in-Fuse c = let a = c.args in

@@ -1,8 +1,9 @@
 -- `kiban_filter_build` answers its own check, and then what build answers. Assumes nothing.
+use Rattle.std.specs.Prelude.{Err, Ok}
 use native.Mathlib.Omega.{arith}
-use mathlib.Core.Path.{refl, sym}
+use mathlib.Core.Path.{refl, sym, ap}
 use Rattle.words.proofs.Laws.{splice_sets}
-use Rattle.filter.specs.declared.Built.TheVariants.{Positive, Fuse, Refused}
+use Rattle.filter.specs.declared.Built.TheVariants.{Positive, Fuse}
 use Rattle.filter.specs.Building.{built_values}
 use Rattle.finish.proofs.RowLaws.{splice_none}
 use Rattle.kiban_c.proofs.FilterCallLaws.{build_refused, build_made, cells_small}
@@ -12,20 +13,20 @@ pub returns-then-answer-lt1 : goal.returns-then-answer-lt1
 returns-then-answer-lt1 c = build_refused c.if-answer-lt1.true
 
 pub overflow_mul-answer : goal.overflow_mul-answer
-overflow_mul-answer c = let z = c.in-Fuse in omega (arith, cells_small z.ensures z.s refl)
+overflow_mul-answer c = let z = c.in-Ok-Fuse in omega (arith, cells_small z.ensures z.s (ap Ok z.field-0-is))
 
-pub overflow_add-answer-in-Fuse : goal.overflow_add-answer-in-Fuse
-overflow_add-answer-in-Fuse c = let z = c.in-Fuse in omega (arith, cells_small z.ensures z.s refl)
+pub overflow_add-answer-in-Ok-Fuse : goal.overflow_add-answer-in-Ok-Fuse
+overflow_add-answer-in-Ok-Fuse c = let z = c.in-Ok-Fuse in omega (arith, cells_small z.ensures z.s (ap Ok z.field-0-is))
 
-pub returns-in-Positive : goal.returns-in-Positive
-returns-in-Positive c = let some = c.if-answer-lt1.false in
-    build_made {r = Positive} some c.in-Positive.ensures refl (splice_sets c.args.answer.now 0 (built_values Positive) (omega arith))
+pub returns-in-Ok-Positive : goal.returns-in-Ok-Positive
+returns-in-Ok-Positive c = let some = c.if-answer-lt1.false in
+    build_made {r = Ok Positive} some c.in-Ok-Positive.ensures (ap Ok c.in-Ok-Positive.field-0-is) (splice_sets c.args.answer.now 0 (built_values (Ok Positive)) (omega arith))
 
-pub returns-in-Fuse : goal.returns-in-Fuse
-returns-in-Fuse c = let some = c.if-answer-lt1.false in
-    let z = c.in-Fuse in
-    build_made {r = Fuse z.s} some z.ensures refl (splice_sets c.args.answer.now 0 (built_values (Fuse z.s)) (omega arith))
+pub returns-in-Ok-Fuse : goal.returns-in-Ok-Fuse
+returns-in-Ok-Fuse c = let some = c.if-answer-lt1.false in
+    let z = c.in-Ok-Fuse in
+    build_made {r = Ok (Fuse z.s)} some z.ensures (ap Ok z.field-0-is) (splice_sets c.args.answer.now 0 (built_values (Ok (Fuse z.s))) (omega arith))
 
-pub returns-in-Refused : goal.returns-in-Refused
-returns-in-Refused c = let n = c.in-Refused in
-    build_made {r = Refused n.n} c.if-answer-lt1.false n.ensures refl (sym (splice_none _ 0))
+pub returns-in-Err : goal.returns-in-Err
+returns-in-Err c = let n = c.in-Err in
+    rw c.number.ensures (build_made {r = Err n.refusal} c.if-answer-lt1.false n.ensures refl (sym (splice_none _ 0)))

@@ -23,4 +23,4 @@ returns-in-Nothing c = get_made {r = Nothing} c.if-answer-lt4.false c.in-Nothing
 
 pub returns-in-Refused : goal.returns-in-Refused
 returns-in-Refused c = let n = c.in-Refused in
-    get_made {r = Refused n.n} c.if-answer-lt4.false n.ensures c.limit_given.ensures refl (sym (splice_none _ 0))
+    rw c.number.ensures (get_made {r = Refused n.refusal} c.if-answer-lt4.false n.ensures c.limit_given.ensures refl (sym (splice_none _ 0)))

@@ -1,10 +1,10 @@
 -- `kiban_validate` is the number of validate's answer. Assumes nothing.
-use mathlib.Core.Path.{sym, ap}
-use Rattle.point.specs.Validate.{refusal_number}
+use Rattle.numbers.specs.Numbers.{number_of}
+use mathlib.Core.Path.{sym, ap, ◌∙◌}
 use Rattle.kiban_c.proofs.point_calls.kiban_validate.Goals as goal
 
-pub returns-in-Accepted : goal.returns-in-Accepted
-returns-in-Accepted c = sym (ap refusal_number (sym c.in-Accepted.ensures))
+pub returns-in-Ok : goal.returns-in-Ok
+returns-in-Ok c = sym (ap number_of (sym c.in-Ok.ensures))
 
-pub returns-in-Refused : goal.returns-in-Refused
-returns-in-Refused c = sym (ap refusal_number (sym c.in-Refused.ensures))
+pub returns-in-Err : goal.returns-in-Err
+returns-in-Err c = c.number.ensures ∙ sym (ap number_of (sym c.in-Err.ensures))

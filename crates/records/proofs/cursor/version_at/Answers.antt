@@ -10,10 +10,10 @@ returns-then-bytes-p c = version_outside _ _ (omega arith)
 pub returns-then-bytes-p-lt-BYTES : goal.returns-then-bytes-p-lt-BYTES
 returns-then-bytes-p-lt-BYTES c = version_outside _ _ (omega arith)
 
-pub returns-in-Known : goal.returns-in-Known
-returns-in-Known c =
-    version_known _ _ (omega arith) _ _ _ _ (sym c.in-Known.ensures)
-    c.u64_at-sequence.ensures c.u64_at-offset.ensures c.u32_at-length.ensures
+pub returns-in_err-kind : goal.returns-in_err-kind
+returns-in_err-kind c = rw c.from_residual.ensures (version_unknown _ _ (omega arith) (sym c.in_err-kind.ensures))
 
-pub returns-in-Unknown : goal.returns-in-Unknown
-returns-in-Unknown c = version_unknown _ _ (omega arith) (sym c.in-Unknown.ensures)
+pub returns : goal.returns
+returns c =
+    version_known _ _ (omega arith) _ _ _ _ (sym c.in_ok-kind.ensures)
+    c.u64_at-sequence.ensures c.u64_at-offset.ensures c.u32_at-length.ensures

@@ -1,16 +1,9 @@
 -- `sizing::Plan::of` meets its contract.
-use native.Mathlib.Omega.{arith}
 use Rattle.sizing.proofs.SizedLaws.{plan_none, plan_some}
 use Rattle.sizing.proofs.Plan.of.Goals as goal
 
 pub returns-then-n-eq0 : goal.returns-then-n-eq0
 returns-then-n-eq0 c = plan_none c.args.n c.if-n-eq0.true
-
-pub segment-requires : goal.segment-requires
-segment-requires c = omega (arith, c.if-n-eq0.false)
-
-pub count-requires : goal.count-requires
-count-requires c = omega (arith, c.if-n-eq0.false)
 
 pub returns : goal.returns
 returns c = plan_some c.args.n c.segment.result c.count.result c.if-n-eq0.false

@@ -1,12 +1,8 @@
--- `put_u16` stores the two bytes one after the other, which is the field put anew. Assumes nothing.
-use Rattle.std.proofs.Common.{add-one, arith, length-set}
-use Rattle.words.specs.Field.{bytes_of}
-use Rattle.words.proofs.Laws.{splice_sets}
+-- `put_u16` puts the 2 bytes of the number. Assumes nothing.
+use Rattle.std.proofs.Common.{ap, ◌∙◌}
+use Rattle.words.specs.Field.{splice}
+use Rattle.words.proofs.Laws.{bytes_low}
 use Rattle.words.proofs.field.put_u16.Goals as goal
 
-pub bounds-raw-at-2 : goal.bounds-raw-at-2
-bounds-raw-at-2 c = simp length-set (omega arith)
-
 pub returns : goal.returns
-unfolding bytes_of
-returns c = rw add-one (splice_sets c.args.raw.now c.args.at (bytes_of 2 c.args.v) (omega arith))
+returns c = c.copy_at.ensures ∙ ap (splice c.args.raw.now c.args.at) (c.to_le_bytes.ensures ∙ bytes_low 2 c.args.v)

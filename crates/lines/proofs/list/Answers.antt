@@ -1,0 +1,9 @@
+-- `list` lists each text that the writer puts: the call that measures it, and the one that writes it, tell where it ends. Assumes nothing.
+use Rattle.lines.proofs.TextLaws.{lists_short, lists_fit}
+use Rattle.lines.proofs.list.Goals as goal
+
+pub returns-then-out-size : goal.returns-then-out-size
+returns-then-out-size g c = λ text p. lists_short (p.puts _ _ _ c.put-size.ensures) c.if-out-size.true
+
+pub returns : goal.returns
+returns g c = λ text p. lists_fit (p.puts _ _ _ c.put-size.ensures) c.if-out-size.false (p.puts _ _ _ c.put.ensures)

@@ -1,7 +1,0 @@
--- `store` is `set`, which leaves a list as it is where the place is past its end. Assumes nothing.
-use mathlib.Core.Path.{sym}
-use lib.Seq.{set_out}
-use Rattle.text.proofs.store.Goals as goal
-
-pub returns-else-at-out : goal.returns-else-at-out
-returns-else-at-out c = sym (set_out _ _ _ c.if-at-out.false)
