@@ -21,7 +21,7 @@ use Rattle.records.specs.Places.{version_count, key_at}
 use Rattle.std.specs.Ordering.{is_lt}
 use Rattle.builder.specs.declared.PointBuilder.{PointBuilder}
 use Rattle.builder.specs.State.{fits, last_of, room_of}
-use Rattle.builder.proofs.StateLaws.{fits_known, fits_inside}
+use Rattle.builder.proofs.StateLaws.{fits_known, fits_inside, fit_refused}
 use Rattle.builder.specs.Add.{Call, rises_after, new_causes, continued_causes, appending_causes, taking_causes, add_causes, add_refusal, Sized, NewPasses, ContinuedPasses, next_state, appended, add_of, buffer_after_add, AddPost}
 use Rattle.builder.specs.Inner.Append.{AppendPost}
 
@@ -42,6 +42,11 @@ module _ (s : PointBuilder) (buffer : List ℕ) (call : Call) where
   pub add_numbered : Numbered (add_causes s buffer call)
   unfolding add_causes taking_causes
   add_numbered = numbered_more (lit< tt) (numbered_more (lit< tt) (numbered_more (lit< tt) (numbered_more (lit< tt) (key_numbered call.new_key))))
+
+  -- a state that doesn't fit is refused first
+  pub add_unfit : (r : Refusal) → number r ≡ cond (fits s buffer) 0 1 → number r ≡ add_refusal s buffer call
+  unfolding add_refusal add_causes
+  add_unfit r e = let p = fit_refused _ _ e in rw (p.0, p.1)
 
   sized_from : None (add_causes s buffer call) → Sized s buffer call × None (appending_causes s (last_of s buffer) (room_of s buffer) call)
   unfolding add_causes taking_causes

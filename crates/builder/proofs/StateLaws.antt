@@ -1,7 +1,7 @@
 -- What a state that fits its buffer says, and back. Assumes nothing.
 use Prim.Native.Nat.{ℕ, ◌+◌, ◌≤◌}
-use mathlib.Core.Path.{◌≡◌, refl, sym, ◌∙◌}
-use mathlib.Core.Bool.{Bool, true, false, true≢false, ◌&&◌, and-eq-true_iff}
+use mathlib.Core.Path.{◌≡◌, refl, sym, ap, ◌∙◌}
+use mathlib.Core.Bool.{Bool, true, false, cond, true≢false, ◌&&◌, and-eq-true_iff}
 use mathlib.Core.List.{List}
 use native.Mathlib.Omega.{arith}
 use borrow.Author.Tests.{leb-true, eqb-true, eqb-false, le-leb, eq-eqb, ne_eqb}
@@ -10,6 +10,10 @@ use lib.ListN.{length}
 use Rattle.std.specs.Bool.{Decides}
 use Rattle.std.proofs.lemmas.Bool.Decides.{same_from_decides}
 use Rattle.numbers.specs.Limits.{most_key_bytes, most_keys}
+use Rattle.numbers.specs.Numbers.{number, refusal_of}
+use Rattle.numbers.specs.declared.Refusal.{Refusal}
+use Rattle.numbers.specs.declared.Refusal.TheVariants.{State}
+use Rattle.numbers.proofs.NumberLaws.{refusal_number, number_nonzero}
 use Rattle.records.specs.Places.{key_length, version_count, next_entry}
 use Rattle.builder.specs.declared.PointBuilder.{PointBuilder}
 use Rattle.builder.specs.State.{fits, fits_at}
@@ -72,3 +76,12 @@ fits_inside s buffer h = go (eqb s.keys 0) refl
         let u = eqb-true s.used 0 z.0 in
         omega arith
     go false e = (fits_known s buffer (eqb-false s.keys 0 e) h).inside
+
+-- a test of the state that passed, and one that refused
+pub fit_passed : (fitting : Bool) → ◌≡◌ {A = ℕ} 0 (cond fitting 0 1) → fitting ≡ true
+fit_passed true e = refl
+fit_passed false e = cc
+
+pub fit_refused : (r : Refusal) (fitting : Bool) → number r ≡ cond fitting 0 1 → (fitting ≡ false) × (r ≡ State)
+fit_refused r true e = absurd (number_nonzero r e)
+fit_refused r false e = (refl, sym (refusal_number r) ∙ ap refusal_of e)

@@ -1,7 +1,7 @@
 // The point builder: records are added to an arena one by one, and the last one's offset is set.
 #![tactic(auto)]
 
-ghost use Rattle.std.specs.Prelude.{◌≡◌, true, ◌+◌, ◌≤◌, ◌<◌, length};
+ghost use Rattle.std.specs.Prelude.{◌≡◌, true, cond, ◌+◌, ◌≤◌, ◌<◌, length, IfOk};
 ghost use Rattle.laws.specs.Refusals.{first_of};
 ghost use Rattle.numbers.specs.Limits.{most_key_bytes, most_keys, most_versions};
 ghost use Rattle.numbers.specs.Numbers.{number_of};
@@ -37,6 +37,72 @@ fn put_version(raw: &mut [u8], at: usize, version: Record)
     field::put_u8(raw, at + 8, version.kind.byte());
     field::put_u32(raw, at + 9, version.length);
     field::put_u64(raw, at + 13, version.offset);
+}
+
+// A state beside the buffer that it fits.
+#[derive(Clone, Copy)]
+struct Fitting<'a> {
+    state: PointBuilder,
+    buffer: &'a [u8],
+    ghost fitting: { fits state buffer.now ≡ true },
+}
+
+impl<'a> Fitting<'a> {
+    // Refuses by 1: what every change of a buffer checks first.
+    fn open(state: PointBuilder, buffer: &'a [u8]) -> Result<Self, Refusal>
+        ensures refuses { number_of result ≡ cond (fits state buffer.now) 0 1 }
+        ensures of_state { IfOk result (λ f. (f.state ≡ state) × (f.buffer.now ≡ buffer.now)) }
+    {
+        if state.fits(buffer) {
+            return Ok(Fitting { state, buffer });
+        }
+        Err(Refusal::State)
+    }
+
+    // Whether a key is greater than the last, if there is one.
+    fn rises(&self, key: &[u8]) -> bool
+        ensures { result ≡ rises_after self.now.state (last_of self.now.state self.now.buffer.now) key.now }
+    {
+        self.state.keys == 0 || compare(key_at(self.buffer, self.state.head), key).is_lt()
+    }
+
+    // Refuses a record of a new key by 4 not greater than the last key, 5 too many keys, 6 no room.
+    fn check_new(&self, key: &[u8]) -> Result<(), Refusal>
+        ensures { number_of result ≡ first_of (new_causes self.now.state (last_of self.now.state self.now.buffer.now) (room_of self.now.state self.now.buffer.now) key.now) }
+    {
+        if !self.rises(key) {
+            return Err(Refusal::Order);
+        }
+        if Arena::MAX_KEYS <= self.state.keys {
+            return Err(Refusal::Count);
+        }
+        if self.buffer.len() - self.state.used < Head::BYTES + Record::BYTES + key.len() {
+            return Err(Refusal::Buffer);
+        }
+        Ok(())
+    }
+
+    // Refuses a further version of the last key by 4 no such key, or not older than the last version; 5 too many versions; 6 no room.
+    fn check_continued(&self, key: &[u8], sequence: u64) -> Result<(), Refusal>
+        ensures { number_of result ≡ first_of (continued_causes self.now.state (last_of self.now.state self.now.buffer.now) (room_of self.now.state self.now.buffer.now) key.now sequence) }
+    {
+        let buffer = self.buffer;
+        let used = self.state.used;
+        let head = self.state.head;
+        if self.state.keys == 0 || !same(key_at(buffer, head), key) {
+            return Err(Refusal::Order);
+        }
+        if field::u64_at(buffer, used - Record::BYTES) <= sequence {
+            return Err(Refusal::Order);
+        }
+        if PointBuilder::MAX_VERSIONS <= field::u32_at(buffer, head + 4) {
+            return Err(Refusal::Count);
+        }
+        if buffer.len() - used < Record::BYTES {
+            return Err(Refusal::Buffer);
+        }
+        Ok(())
+    }
 }
 
 impl PointBuilder {
@@ -78,53 +144,6 @@ impl PointBuilder {
         used - Head::BYTES - head == key + Record::BYTES * versions
     }
 
-    // Whether a key is greater than the last, if there is one.
-    fn rises(self, buffer: &[u8], key: &[u8]) -> bool
-        requires { fits self buffer.now ≡ true }
-        ensures { result ≡ rises_after self (last_of self buffer.now) key.now }
-    {
-        self.keys == 0 || compare(key_at(buffer, self.head), key).is_lt()
-    }
-
-    // Refuses a record of a new key by 4 not greater than the last key, 5 too many keys, 6 no room.
-    fn check_new(self, buffer: &[u8], key: &[u8]) -> Result<(), Refusal>
-        requires { (fits self buffer.now ≡ true) × (length key.now ≤ most_key_bytes) }
-        ensures { number_of result ≡ first_of (new_causes self (last_of self buffer.now) (room_of self buffer.now) key.now) }
-    {
-        if !self.rises(buffer, key) {
-            return Err(Refusal::Order);
-        }
-        if Arena::MAX_KEYS <= self.keys {
-            return Err(Refusal::Count);
-        }
-        if buffer.len() - self.used < Head::BYTES + Record::BYTES + key.len() {
-            return Err(Refusal::Buffer);
-        }
-        Ok(())
-    }
-
-    // Refuses a further version of the last key by 4 no such key, or not older than the last version; 5 too many versions; 6 no room.
-    fn check_continued(self, buffer: &[u8], key: &[u8], sequence: u64) -> Result<(), Refusal>
-        requires { fits self buffer.now ≡ true }
-        ensures { number_of result ≡ first_of (continued_causes self (last_of self buffer.now) (room_of self buffer.now) key.now sequence) }
-    {
-        let used = self.used;
-        let head = self.head;
-        if self.keys == 0 || !same(key_at(buffer, head), key) {
-            return Err(Refusal::Order);
-        }
-        if field::u64_at(buffer, used - Record::BYTES) <= sequence {
-            return Err(Refusal::Order);
-        }
-        if PointBuilder::MAX_VERSIONS <= field::u32_at(buffer, head + 4) {
-            return Err(Refusal::Count);
-        }
-        if buffer.len() - used < Record::BYTES {
-            return Err(Refusal::Buffer);
-        }
-        Ok(())
-    }
-
     // Refuses a record by the tests in document 01's order.
     fn check_add(
         self,
@@ -137,9 +156,7 @@ impl PointBuilder {
     ) -> Result<(), Refusal>
         ensures { number_of result ≡ add_refusal self buffer.now (record { key = key.now; kind = kind; size = length; sequence = sequence; new_key = new_key }) }
     {
-        if !self.fits(buffer) {
-            return Err(Refusal::State);
-        }
+        let fitting = Fitting::open(self, buffer)?;
         if (Head::MAX_KEY as usize) < key.len() || (Record::MAX_VALUE as u64) < length {
             return Err(Refusal::TooLong);
         }
@@ -147,9 +164,9 @@ impl PointBuilder {
             return Err(Refusal::Tombstone);
         }
         if new_key {
-            return self.check_new(buffer, key);
+            return fitting.check_new(key);
         }
-        self.check_continued(buffer, key, sequence)
+        fitting.check_continued(key, sequence)
     }
 
     // Writes a new entry with one version behind the used bytes.
@@ -220,9 +237,7 @@ impl PointBuilder {
     ) -> Result<(), Refusal>
         ensures { SetPost self buffer.old place offset result buffer.new }
     {
-        if !self.fits(buffer) {
-            return Err(Refusal::State);
-        }
+        Fitting::open(self, buffer)?;
         if self.keys == 0 || place != self.used - 8 {
             return Err(Refusal::Place);
         }

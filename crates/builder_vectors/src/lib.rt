@@ -2,7 +2,7 @@
 #![tactic(auto)]
 
 use builder::PointBuilder;
-use numbers::Refusal;
+use numbers::{Refusal, number_of};
 use records::Kind;
 use std::io;
 use std::io::Print;
@@ -85,10 +85,8 @@ fn set_agrees(buffer: &mut [u8], p: &[u8]) -> bool {
         return false;
     }
     let place = vectors::u64_in(p, 24) as usize;
-    match state_in(p, 0).set_value_offset(buffer, place, vectors::u64_in(p, 32)) {
-        Ok(()) => vectors::u8_in(p, 40) == 0,
-        Err(refusal) => vectors::u8_in(p, 40) == refusal.number(),
-    }
+    let given = state_in(p, 0).set_value_offset(buffer, place, vectors::u64_in(p, 32));
+    number_of(&given) == vectors::u8_in(p, 40)
 }
 
 // 12: u32 from, bytes: the buffer holds them there.

@@ -3,13 +3,16 @@ use Prim.Native.Nat.{ℕ, suc, ◌+◌, ◌-◌, ◌≤◌, ◌<◌}
 use mathlib.Core.Path.{◌≡◌, refl, sym, ap, ◌∙◌, subst}
 use mathlib.Core.List.{List}
 use mathlib.Core.Option.{Option as Maybe, none, some, map}
-use Rattle.std.specs.Prelude.{Some, None}
+use mathlib.Core.Logic.{◌⊎◌, inl, inr}
+use Rattle.std.specs.Prelude.{Option, Some, None, MatchOption}
+use Rattle.std.specs.List.{AllWithin, HoldsAt}
+use Rattle.laws.proofs.Cases.{lt_or_ge}
 use native.Mathlib.Nat.{zero-add}
 use native.Mathlib.Numerals.{add-one}
 use native.Mathlib.Omega.{arith}
 use native.Mathlib.Decide.{ℕ_discrete}
-use lib.ListN.{length, get_or, set}
-use lib.Seq.{get_or-set_same, get_or-set_other}
+use lib.ListN.{length, get_or, set, take, drop, length-drop}
+use lib.Seq.{get_or-set_same, get_or-set_other, get_or-drop, take_all}
 use Rattle.laws.specs.Steps.{least, steps}
 use Rattle.laws.proofs.StepsLaws.{steps_more, steps_failed, least_at, least_of_none}
 use Rattle.construct.specs.Construct.{direct, tries, group, size, seat, settle, Placing, pilot_noted, place_group, place_single, place_of, place_size, place_down}
@@ -90,3 +93,20 @@ filled_more slots at m low x lx e = go (ℕ_discrete x at)
     go : Dec (x ≡ at) → ⊥
     go (yes z) = omega (arith, e, ap (λ (y : ℕ). get_or (set slots at (m + 1)) y 0) z, get_or-set_same slots at (m + 1) 0 low.0)
     go (no z) = low.1 x (omega (arith, z)) (sym (get_or-set_other slots at x (m + 1) 0 z) ∙ e)
+
+-- the slots below `from` are taken, and the others were looked at until a free one was met
+module _ (slots : List ℕ) (from : ℕ) (F : (from ≤ length slots) × FilledBelow slots from) where
+  taken_to : (i : ℕ) → from + i ≤ length slots → AllWithin (λ x. x ≡ 0 → ⊥) (drop from slots) 0 i → FilledBelow slots (from + i)
+  taken_to i b g x l e = go (lt_or_ge x from)
+    where
+      go : (x < from) ⊎ (from ≤ x) → ⊥
+      go (inl m) = F.1 x m e
+      go (inr m) = g (x - from) 0 (omega arith) (omega arith) (get_or-drop from slots (x - from) 0 ∙ ap (λ (y : ℕ). get_or slots y 0) (omega arith) ∙ e)
+
+  pub ahead : take (length slots - from) (drop from slots) ≡ drop from slots
+  ahead = take_all (length slots - from) (drop from slots) (omega (arith, length-drop from slots))
+
+  pub next_lowest : (r : Option ℕ) → MatchOption r (AllWithin (λ x. x ≡ 0 → ⊥) (drop from slots) 0 (length (drop from slots))) (λ i. (i < length (drop from slots)) × HoldsAt (λ x. x ≡ 0) (drop from slots) i × AllWithin (λ x. x ≡ 0 → ⊥) (drop from slots) 0 i)
+      → MatchOption r (Lowest slots None) (λ i. Lowest slots (Some (from + i)))
+  next_lowest None g = λ x l e. taken_to (length (drop from slots)) (omega (arith, F.0, length-drop from slots)) g x (omega (arith, F.0, length-drop from slots)) e
+  next_lowest (Some i) g = (omega (arith, g.0, length-drop from slots), taken_to i (omega (arith, g.0, length-drop from slots)) g.2, sym (get_or-drop from slots i 0) ∙ g.1 0)

@@ -6,7 +6,7 @@ ghost use Rattle.construct.specs.Inner.Layout.{Bucketed};
 use super::members::Members;
 
 // The hashes of the keys; the keys, bucket after bucket; and where each bucket's begin, with the number of keys behind.
-#[derive(Clone, Copy, Drop)]
+#[derive(Clone, Copy)]
 pub struct Buckets<'a> {
     pub hashes: &'a [u64],
     pub members: &'a [u64],

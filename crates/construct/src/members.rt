@@ -4,7 +4,7 @@ ghost use Rattle.construct.specs.Construct.{spot};
 ghost use Rattle.construct.specs.Inner.Seating.{Keys};
 
 // The hashes of all keys, and the members, which are some of those keys.
-#[derive(Clone, Copy, Drop)]
+#[derive(Clone, Copy)]
 pub struct Members<'a> {
     pub hashes: &'a [u64],
     pub keys: &'a [u64],

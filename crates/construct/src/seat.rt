@@ -14,12 +14,12 @@ fn seat_members(members: Members, slots: &mut [u32], pilot: u32) -> usize
     requires { length slots.old ≡ length members.hashes.now }
     ensures { SeatedTo members.entry.hashes.now members.entry.keys.now pilot slots.old slots.new result }
 {
-    for (j, key) in members.keys.iter().enumerate() {
+    for (j, &key) in members.keys.iter().enumerate() {
         let at = members.spot(j, pilot);
         if slots[at] != 0 {
             return j;
         }
-        slots[at] = (*key + 1) as u32;
+        slots[at] = (key + 1) as u32;
     }
     members.keys.len()
 }

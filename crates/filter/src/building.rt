@@ -8,7 +8,7 @@ ghost use Rattle.filter.specs.Inner.Building.{Roomy, Spaced, SearchPost, CellsPo
 use super::Built;
 use fuse::{Sizes, header};
 use numbers::Refusal;
-use peel::Graph;
+use peel::graph::Graph;
 use sizing::Plan;
 
 // The cells for n hashes: none for no hashes.
@@ -57,8 +57,7 @@ fn search(
     for i in 1..=Built::ATTEMPTS {
         let g = Graph {
             seed: mixing::mix(i),
-            segment: s.segment as usize,
-            count: s.count as usize,
+            segments: s.segments(),
             cells: cells.len(),
         };
         if peel::attempt(hashes, wide, narrow, cells, g) {

@@ -1,8 +1,7 @@
 // Replays the vectors of filter building: ops 30 build, 31 build of made hashes. Space is lent dirty, and what is left is tested.
 #![tactic(auto)]
 
-use filter::Built;
-use numbers::Refusal;
+use numbers::number_of;
 use std::io;
 use std::io::Print;
 use vectors::{Count, space};
@@ -52,14 +51,6 @@ fn make_hashes(hashes: &mut [u64], seed: u64) {
     }
 }
 
-// The number of what was built.
-fn number_of(built: Result<Built, Refusal>) -> u8 {
-    match built {
-        Ok(_) => 0,
-        Err(refusal) => refusal.number(),
-    }
-}
-
 // Takes the hashes, builds, and tests the answer and what is left: u8 number, bytes filter stand at `at`.
 fn built_agrees(
     hashes: &mut [u64],
@@ -70,7 +61,7 @@ fn built_agrees(
     at: usize,
 ) -> bool {
     take_hashes(hashes, p);
-    let number = number_of(filter::build(hashes, wide, narrow, out));
+    let number = number_of(&filter::build(hashes, wide, narrow, out));
     let want = vectors::bytes_in(p, vectors::end_in(p, at, 1));
     if number != vectors::u8_in(p, at) || !space::output_agrees(out, want) {
         return false;
@@ -136,7 +127,7 @@ fn made_agrees(p: &[u8]) -> bool {
 fn made_run(hashes: &mut [u64], out: &mut [u8], want: u8) -> bool {
     let mut wide: [u64; WIDE] = space::room(space::DIRTY as u64);
     let mut narrow: [u32; NARROW] = space::room(space::DIRTY as u32);
-    let number = number_of(filter::build(hashes, &mut wide, &mut narrow, out));
+    let number = number_of(&filter::build(hashes, &mut wide, &mut narrow, out));
     let left = if number == 0 { 0 } else { space::DIRTY };
     number == want && space::spaces_hold(&wide, &narrow, left)
 }

@@ -17,8 +17,8 @@ fn write_pilots(out: &mut [u8], at: usize, pilots: &[u32])
     requires { at + 4 * length pilots.now ≤ length out.old }
     ensures { out.new ≡ splice out.old at (pilots_bytes pilots.now) }
 {
-    for (i, pilot) in pilots.iter().enumerate() {
-        field::put_u32(out, at + Header::PILOT * i, *pilot);
+    for (i, &pilot) in pilots.iter().enumerate() {
+        field::put_u32(out, at + Header::PILOT * i, pilot);
     }
 }
 
@@ -39,8 +39,8 @@ fn write_slots(out: &mut [u8], at: usize, wide: &[u64], slots: &[u32])
     ensures { out.new ≡ splice out.old at (flat_map (listed_slot wide.now (length slots.now)) slots.now) }
 {
     let (hashes, places) = wide.split_at(slots.len());
-    for (s, held) in slots.iter().enumerate() {
-        let m = *held as usize - 1;
+    for (s, &held) in slots.iter().enumerate() {
+        let m = held as usize - 1;
         write_slot(
             out,
             at + Header::SLOT * s,

@@ -21,8 +21,8 @@ pub fn mismatch(hs: &[u64], placing: Placing) -> bool
     ensures { result ≡ mismatch hs.now placing.entry.pilots.now placing.entry.slots.now }
 {
     let Placing { pilots, slots } = placing;
-    for (s, held) in slots.iter().enumerate() {
-        if unmatched(hs, pilots, slots.len(), s, *held) {
+    for (s, &held) in slots.iter().enumerate() {
+        if unmatched(hs, pilots, slots.len(), s, held) {
             return true;
         }
     }

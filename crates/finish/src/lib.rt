@@ -50,7 +50,7 @@ fn check_lengths(
     Ok(())
 }
 
-// Checks the attempt that was taken, and writes the body.
+// Refuses by 11, where a slot of the attempt is unfilled or mismatched; else writes the body.
 fn checked(
     arena: &[u8],
     out: &mut [u8],
@@ -69,7 +69,7 @@ fn checked(
     Ok(arena_start(n) + arena.len())
 }
 
-// Places the n keys, and writes the body where that succeeds.
+// Places the n keys, refusing by 10 where no attempt succeeds, and writes the body.
 fn build(
     arena: &[u8],
     out: &mut [u8],
@@ -80,9 +80,7 @@ fn build(
     requires { Room arena.now out.old wide.old n × (8 * n + 8 ≤ length narrow.old) }
     ensures { BodyPost arena.now out.old n result out.new }
 {
-    let Some(i) = construct::construct(arena, wide, narrow, n) else {
-        return Err(Refusal::Attempts);
-    };
+    let i = construct::construct(arena, wide, narrow, n).ok_or(Refusal::Attempts)?;
     let b = buckets(n);
     let placing = Placing {
         pilots: places::pilots(narrow, b),

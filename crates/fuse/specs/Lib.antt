@@ -1,3 +1,4 @@
 pub mod Positions
 pub mod Asking
 pub mod Layout
+pub mod Props

@@ -3,6 +3,7 @@
 
 ghost use Rattle.std.specs.Prelude.{◌≡◌, ◌^◌, ◌<◌, length};
 ghost use Rattle.fuse.specs.Positions.{Usable, FitsCells, cells_in, cell_of, positions_of};
+ghost use Rattle.fuse.specs.Props.{usable_prop};
 ghost use Rattle.fuse.specs.Asking.{graph_hash, xor_at, contains_of};
 
 pub mod header;
@@ -33,44 +34,64 @@ impl Sizes {
     {
         (self.count as usize + 3) * self.segment as usize
     }
-}
 
-// Position i of the hash h: the first is a, each other lies in a segment of its own behind it.
-pub fn cell(segment: usize, count: usize, h: u64, i: usize) -> usize
-    requires { Usable segment count × (i < 4) }
-    ensures { result ≡ cell_of segment count h i }
-{
-    let a = words::wide::mul_high(h, (count * segment) as u64) as usize;
-    if i == 0 {
-        return a;
+    // Where the cells of a hash lie.
+    pub fn segments(self) -> Segments
+        requires { Usable self.segment self.count }
+        ensures { (result.segment ≡ self.segment) × (result.count ≡ self.count) }
+    {
+        Segments {
+            segment: self.segment as usize,
+            count: self.count as usize,
+        }
     }
-    let word = (h >> (16 * (i - 1))) as usize;
-    (a + i * segment) ^ (word & (segment - 1))
 }
 
-// All four, in position order.
-pub fn positions(segment: usize, count: usize, h: u64) -> [usize; 4]
-    requires { Usable segment count }
-    ensures { result ≡ positions_of segment count h }
-{
-    [
-        cell(segment, count, h, 0),
-        cell(segment, count, h, 1),
-        cell(segment, count, h, 2),
-        cell(segment, count, h, 3),
-    ]
+// A segment and a count that a filter can have: they say where the four cells of a hash lie.
+#[derive(Clone, Copy)]
+pub struct Segments {
+    pub segment: usize,
+    pub count: usize,
+    pub ghost usable: { Usable segment count } by { usable_prop segment count },
 }
 
-// The xor of the four cells of the hash h.
-pub fn xor_cells(cells: &[u8], segment: usize, count: usize, h: u64) -> u8
-    requires { Usable segment count × (length cells.now ≡ cells_in segment count) }
-    ensures { result ≡ xor_at cells.now (positions_of segment count h) }
-{
-    let mut x = 0;
-    for p in positions(segment, count, h) {
-        x ^= cells[p];
+impl Segments {
+    // Position i of the hash h: the first is a, each other lies in a segment of its own behind it.
+    pub fn cell(self, h: u64, i: usize) -> usize
+        requires { i < 4 }
+        ensures { result ≡ cell_of self.segment self.count h i }
+    {
+        let a = words::wide::mul_high(h, (self.count * self.segment) as u64) as usize;
+        if i == 0 {
+            return a;
+        }
+        let word = (h >> (16 * (i - 1))) as usize;
+        (a + i * self.segment) ^ (word & (self.segment - 1))
     }
-    x
+
+    // All four, in position order.
+    pub fn positions(self, h: u64) -> [usize; 4]
+        ensures { result ≡ positions_of self.segment self.count h }
+    {
+        [
+            self.cell(h, 0),
+            self.cell(h, 1),
+            self.cell(h, 2),
+            self.cell(h, 3),
+        ]
+    }
+
+    // The xor of the four cells of the hash h.
+    pub fn xor(self, cells: &[u8], h: u64) -> u8
+        requires { length cells.now ≡ cells_in self.segment self.count }
+        ensures { result ≡ xor_at cells.now (positions_of self.segment self.count h) }
+    {
+        let mut x = 0;
+        for p in self.positions(h) {
+            x ^= cells[p];
+        }
+        x
+    }
 }
 
 // The filter's h: the hash mixed with the seed.
@@ -81,10 +102,11 @@ pub fn graph_hash(seed: u64, hash: u64) -> u64
 }
 
 // Whether a hash is present: its four cells xor to the low byte of its h.
+#[tactic(auto, unfolding(crate::specs::Asking::contains_of))]
 pub fn contains(cells: &[u8], s: Sizes, hash: u64) -> bool
     requires { FitsCells s.segment s.count (length cells.now) }
     ensures { result ≡ contains_of cells.now s hash }
 {
     let h = graph_hash(s.seed, hash);
-    xor_cells(cells, s.segment as usize, s.count as usize, h) == (h % 256) as u8
+    s.segments().xor(cells, h) == (h % 256) as u8
 }

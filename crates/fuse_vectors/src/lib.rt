@@ -24,7 +24,7 @@ fn position_agrees(p: &[u8], s: Sizes, cells: usize, i: usize) -> bool {
         return false;
     }
     let h = vectors::u64_in(p, 0);
-    let at = fuse::cell(s.segment as usize, s.count as usize, h, i);
+    let at = s.segments().cell(h, i);
     at == vectors::u32_in(p, 16 + 4 * i) as usize
 }
 

@@ -4,7 +4,7 @@ ghost use Rattle.kiban_c.specs.BuilderCalls.{state_of, AddCall, SetOffsetCall};
 
 use super::lent::{number, put_words};
 use builder::PointBuilder;
-use numbers::Refusal;
+use numbers::{Refusal, number_of};
 use records::Kind;
 
 // The state that words hold.
@@ -33,13 +33,13 @@ pub fn kiban_add(
     ensures { AddCall buffer.old state.old key.now kind length sequence new_key answer.old result buffer.new state.new answer.new }
 {
     if answer.len() < 1 {
-        return Refusal::Buffer as u64;
+        return number(Refusal::Buffer);
     }
     if state.len() < 3 {
-        return Refusal::State as u64;
+        return number(Refusal::State);
     }
     let Some(known) = Kind::from_byte(kind) else {
-        return Refusal::Kind as u64;
+        return number(Refusal::Kind);
     };
     let from = state_of(state);
     match from.add(buffer, key, known, length, sequence, new_key != 0) {
@@ -58,11 +58,8 @@ pub fn kiban_set_offset(buffer: &mut [u8], state: &[u64], place: u64, offset: u6
     ensures { SetOffsetCall buffer.old state.now place offset result buffer.new }
 {
     if state.len() < 3 {
-        return Refusal::State as u64;
+        return number(Refusal::State);
     }
     let from = state_of(state);
-    match from.set_value_offset(buffer, place as usize, offset) {
-        Ok(()) => 0,
-        Err(refusal) => number(refusal),
-    }
+    number_of(&from.set_value_offset(buffer, place as usize, offset)) as u64
 }

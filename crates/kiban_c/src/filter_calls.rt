@@ -21,7 +21,7 @@ pub fn kiban_filter_build(
     ensures { FilterBuildCall hashes.old wide.old narrow.old out.old answer.old result hashes.new wide.new narrow.new out.new answer.new }
 {
     if answer.len() < 1 {
-        return Refusal::Buffer as u64;
+        return number(Refusal::Buffer);
     }
     match filter::build(hashes, wide, narrow, out) {
         Ok(Built::Positive) => {
@@ -41,7 +41,7 @@ pub fn kiban_filter_read(bytes: &[u8], answer: &mut [u64]) -> u64
     ensures { FilterReadCall bytes.now answer.old result answer.new }
 {
     if answer.len() < 6 {
-        return Refusal::Buffer as u64;
+        return number(Refusal::Buffer);
     }
     match filter::read(bytes) {
         SstFilter::Positive => {
@@ -54,7 +54,7 @@ pub fn kiban_filter_read(bytes: &[u8], answer: &mut [u64]) -> u64
             put_words(answer, &held);
             0
         }
-        SstFilter::Refused => Refusal::Filter as u64,
+        SstFilter::Refused => number(Refusal::Filter),
     }
 }
 
@@ -65,7 +65,7 @@ fn ask_number(answer: Asked) -> u8
     match answer {
         Asked::Absent => 0,
         Asked::Maybe => 1,
-        Asked::Refused => Refusal::Filter as u8,
+        Asked::Refused => Refusal::Filter.number(),
     }
 }
 
@@ -91,7 +91,7 @@ pub fn kiban_filter_ask_all(bytes: &[u8], hashes: &[u64], answers: &mut [u8]) ->
     ensures { FilterAskAllCall bytes.now hashes.now answers.old result answers.new }
 {
     if answers.len() < hashes.len() {
-        return Refusal::Buffer as u64;
+        return number(Refusal::Buffer);
     }
     match filter::read(bytes) {
         SstFilter::Positive => {
@@ -102,6 +102,6 @@ pub fn kiban_filter_ask_all(bytes: &[u8], hashes: &[u64], answers: &mut [u8]) ->
             ask_each(s, &bytes[Sizes::HEADER..], hashes, answers);
             0
         }
-        SstFilter::Refused => Refusal::Filter as u64,
+        SstFilter::Refused => number(Refusal::Filter),
     }
 }

@@ -1,7 +1,7 @@
 // Finish: the answer is one word (the body's length).
 ghost use Rattle.kiban_c.specs.FinishCalls.{FinishCall};
 
-use super::lent::number;
+use super::lent::{number, put_size};
 use numbers::Refusal;
 
 // Finishes an arena: 0, with the body's length in front of `answer`, or the refusal; 6 first for an answer under one word.
@@ -15,13 +15,7 @@ pub fn kiban_finish(
     ensures { FinishCall arena.now out.old wide.old narrow.old answer.old result out.new wide.new narrow.new answer.new }
 {
     if answer.len() < 1 {
-        return Refusal::Buffer as u64;
+        return number(Refusal::Buffer);
     }
-    match finish::finish(arena, out, wide, narrow) {
-        Ok(size) => {
-            answer[0] = size as u64;
-            0
-        }
-        Err(refusal) => number(refusal),
-    }
+    put_size(finish::finish(arena, out, wide, narrow), answer)
 }

@@ -4,7 +4,7 @@ ghost use Rattle.records.specs.Model.{kind_byte};
 ghost use Rattle.kiban_c.specs.PointCalls.{validate_call_of, limit_given, GetCall};
 
 use super::lent::{number, put_words};
-use numbers::Refusal;
+use numbers::{Refusal, number_of};
 use point::Answer;
 use records::{Kind, Limit};
 
@@ -12,10 +12,7 @@ use records::{Kind, Limit};
 pub fn kiban_validate(body: &[u8], data_length: u64) -> u64
     ensures { result ≡ validate_call_of body.now data_length }
 {
-    match point::validate(body, data_length) {
-        Ok(()) => 0,
-        Err(refusal) => number(refusal),
-    }
+    number_of(&point::validate(body, data_length)) as u64
 }
 
 // The limit that a host gives.
@@ -45,7 +42,7 @@ pub fn kiban_get(
     ensures { GetCall body.now «data».now key.now limited limit answer.old result answer.new }
 {
     if answer.len() < 4 {
-        return Refusal::Buffer as u64;
+        return number(Refusal::Buffer);
     }
     match point::get(body, data, key, limit_given(limited, limit)) {
         Answer::Found(r) => {

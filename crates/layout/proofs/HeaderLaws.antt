@@ -10,7 +10,7 @@ use lib.Dec.{ltb, leb, eqb, lit<}
 use borrow.Author.Tests.{ltb-false, leb-false, eqb-true, eqb-false, not-false, lt-ltb, le-ltb, lt-leb, eq-eqb, ne_eqb}
 use Rattle.laws.specs.Refusals.{cause, or_else}
 use Rattle.laws.specs.Refusals.Numbered.{numbered_none, numbered_more}
-use Rattle.laws.proofs.RefusalLaws.{first_append, or_else_stop, or_else_zero}
+use Rattle.laws.proofs.RefusalLaws.{first_append, or_else_zero}
 use Rattle.words.specs.Field.{le, bytes_of, splice}
 use Rattle.words.proofs.Laws.{length_bytes_of, splice_then}
 use Rattle.words.proofs.Ordered.{same_self}
@@ -96,10 +96,6 @@ module _ (body : List ℕ) {h : Header} (read : h ≡ header_in body) where
 
   pub arena_is : h.arena ≡ arena_in body
   arena_is = ap (λ (x : Header). x.arena) read
-
-pub header_stop : (body : List ℕ) (r : ℕ) → r ≡ magic_refusal body → (r ≡ 0 → ⊥) → header_refusal body ≡ r
-unfolding header_refusal
-header_stop body r e n = rw (← e) (or_else_stop r _ n)
 
 pub header_on : (body : List ℕ) (m r : ℕ) (h : Header) → m ≡ magic_refusal body → m ≡ 0 → h ≡ header_in body
     → r ≡ dimension_refusal h.keys h.buckets h.arena → header_refusal body ≡ or_else r (cond (leb (length body) h.arena) 21 0)

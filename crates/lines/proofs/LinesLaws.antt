@@ -1,16 +1,14 @@
 -- The walk that writes the lines, an entry at a time. Assumes nothing.
 use Prim.Native.Nat.{ℕ, ◌+◌, ◌-◌, ◌<◌, ◌≤◌}
-use native.Mathlib.Nat.{add-zero}
+use native.Mathlib.Nat.{zero-add}
 use native.Mathlib.Omega.{arith}
-use mathlib.Core.Path.{◌≡◌, refl, sym, ap, ◌∙◌}
+use mathlib.Core.Path.{◌≡◌, refl, ap, ◌∙◌}
 use mathlib.Core.List.{List, [], ◌++◌, append-nil}
 use mathlib.Core.Option.{Option, none}
-use lib.ListN.{length, length-append}
-use lib.Seq.{sets}
-use Rattle.words.proofs.Laws.{le_lt}
-use Rattle.words.specs.Field.{AllBytes}
-use Rattle.text.specs.Inner.Written.{Ends, WrittenAt}
-use Rattle.text.proofs.WrittenLaws.{sets_append}
+use lib.ListN.{length}
+use Rattle.text.specs.declared.Writer.{Writer}
+use Rattle.text.specs.Inner.Written.{Ends, Wrote}
+use Rattle.text.proofs.WrittenLaws.{wrote_none, wrote_then, ends_first, ends_second}
 use Rattle.layout.specs.Layout.{keys_in, arena_in}
 use Rattle.records.specs.declared.Record.{Record}
 use Rattle.records.specs.declared.Within.TheVariants.{Found}
@@ -21,7 +19,7 @@ use Rattle.records.proofs.ModelLaws.{found_some}
 use Rattle.records.proofs.PassedLaws.{entries_count}
 use Rattle.records.proofs.StandsLaws.{stands_on, entries_on}
 use Rattle.point.specs.Table.{table_of}
-use Rattle.lines.specs.declared.Lines.{Lines}
+use Rattle.point.specs.Inner.Stands.{TableStands}
 use Rattle.lines.specs.Shown.{Rule, shown, Shows, shows_for, shown_of}
 use Rattle.lines.specs.Listing.{line_of, text_of_shown}
 use Rattle.lines.specs.Inner.Steps.{shown_by, Lined}
@@ -50,57 +48,48 @@ module _ (rule : Rule) (limit : ℕ) (body : List ℕ) where
 
 -- ---- the walk: k entries are left from p on, and what was written with their lines is the whole
 
-pub record Going (rule : Rule) (limit : ℕ) (before : List ℕ) (at : ℕ) (body out : List ℕ) (end shown p left : ℕ) : Type 0 where
+pub record Going (rule : Rule) (limit : ℕ) (before : Writer) (body : List ℕ) (out : Writer) (shown p left : ℕ) : Type 0 where
   pub stand : EntriesStand body p left
-  pub buffer : sets out end (text_of_shown (shown_from rule limit body p left)) ≡ sets before at (text_of_shown (shown_from rule limit body (arena_in body) (keys_in body)))
-  pub place : end + length (text_of_shown (shown_from rule limit body p left)) ≡ at + length (text_of_shown (shown_from rule limit body (arena_in body) (keys_in body)))
+  pub ends : Ends out.at (text_of_shown (shown_from rule limit body p left))
+  pub whole : (after : Writer) → Wrote out (text_of_shown (shown_from rule limit body p left)) after
+      → Wrote before (text_of_shown (shown_from rule limit body (arena_in body) (keys_in body))) after
   pub count : shown + length (shown_from rule limit body p left) ≡ length (shown_from rule limit body (arena_in body) (keys_in body))
-  pub size : length out ≡ length before
 
-module _ {rule : Rule} {limit : ℕ} {before : List ℕ} {at : ℕ} {body out : List ℕ} {end shown p left : ℕ} (g : Going rule limit before at body out end shown p left) where
+-- before the first entry
+pub going_start : (rule : Rule) (limit : ℕ) {before : Writer} (body : List ℕ) (p left : ℕ) → p ≡ arena_in body → left ≡ keys_in body → TableStands body → Ends before.at (text_of_shown (shown_of rule limit (table_of body)))
+    → Going rule limit before body before 0 p left
+unfolding table_of
+going_start rule limit body p left ep el t e = rw (ep, el) (record { stand = t.all; ends = e; whole = λ w l. l; count = zero-add _ })
+
+module _ {rule : Rule} {limit : ℕ} {before : Writer} {body : List ℕ} {out : Writer} {shown p left : ℕ} (g : Going rule limit before body out shown p left) where
   module _ (some : 0 < left) where
-    sum_on : length (text_of_shown (shown_from rule limit body p left))
-        ≡ length (text_of_shown (shown_by rule limit (entry_at body p))) + length (text_of_shown (shown_from rule limit body (next_entry body p) (left - 1)))
-    sum_on =
-        ap length (text_on rule limit body p left some)
-        ∙ length-append (text_of_shown (shown_by rule limit (entry_at body p))) (text_of_shown (shown_from rule limit body (next_entry body p) (left - 1)))
-
-    pub going_room : Ends at (text_of_shown (shown_from rule limit body (arena_in body) (keys_in body))) → Ends end (text_of_shown (shown_by rule limit (entry_at body p)))
-    going_room e = record { inside = omega (arith, sum_on, g.place, e.inside) }
+    pub going_room : Ends out.at (text_of_shown (shown_by rule limit (entry_at body p)))
+    going_room = ends_first _ (rw (text_on rule limit body p left some) at g.ends)
 
     -- the count fits a word of 32 bits
-    pub going_count : AllBytes body → shown + length (shown_by rule limit (entry_at body p)) < 4294967296
-    going_count all =
+    pub going_count : keys_in body < 4294967296 → shown + length (shown_by rule limit (entry_at body p)) < 4294967296
+    going_count few =
         omega
-        (arith, count_on rule limit body p left some, g.count, shown_few rule limit (entries_from body (arena_in body) (keys_in body)), entries_count body (arena_in body) (keys_in body), le_lt 4 body 16 all)
+        (arith, count_on rule limit body p left some, g.count, shown_few rule limit (entries_from body (arena_in body) (keys_in body)), entries_count body (arena_in body) (keys_in body), few)
 
-    module _ (after : List ℕ) (l : Lines) (q : ℕ) (put : Lined (shown_by rule limit (entry_at body p)) out end after l) (same : length after ≡ length out) (eq : q ≡ next_entry body p) where
-      pub going_on : Going rule limit before at body after l.end (shown + l.shown) q (left - 1)
+    module _ (after : Writer) (count q : ℕ) (put : Lined (shown_by rule limit (entry_at body p)) out after count) (eq : q ≡ next_entry body p) where
+      pub going_on : Going rule limit before body after (shown + count) q (left - 1)
       going_on =
           rw eq
           (record {
             stand = stands_on some g.stand;
-            buffer =
-                rw (put.written.buffer, put.written.place)
-                (sym (sets_append out end (text_of_shown (shown_by rule limit (entry_at body p))) (text_of_shown (shown_from rule limit body (next_entry body p) (left - 1))))
-                ∙ ap (sets out end) (sym (text_on rule limit body p left some))
-                ∙ g.buffer);
-            place = omega (arith, put.written.place, sum_on, g.place);
+            ends = ends_second put.wrote (rw (text_on rule limit body p left some) at g.ends);
+            whole = λ w l. g.whole w (rw (text_on rule limit body p left some) (wrote_then put.wrote l));
             count = omega (arith, put.counted, count_on rule limit body p left some, g.count);
-            size = same ∙ g.size;
           })
 
   -- none is left
-  pub going_end : left ≤ 0 → Lined (shown_of rule limit (table_of body)) before at out (record { end = end; shown = shown })
+  pub going_end : left ≤ 0 → Lined (shown_of rule limit (table_of body)) before out shown
   unfolding table_of text_of_shown
   going_end h =
       let n = shown_end rule limit body p left h in
       record {
-        written =
-            record {
-              buffer = sym (ap (λ (ss : List Shows). sets out end (text_of_shown ss)) n) ∙ g.buffer;
-              place = omega (arith, ap (λ (ss : List Shows). length (text_of_shown ss)) n, g.place);
-            };
+        wrote = g.whole out (rw n wrote_none);
         counted = omega (arith, ap length n, g.count);
       }
 
@@ -116,10 +105,10 @@ module _ (key : List ℕ) (o : Option Record) where
     pub line_ends : {at : ℕ} → Ends at (text_of_shown (shows_for key o [])) → Ends at (line_of key r)
     line_ends h = rw line_is at h
 
-    pub lined_some : {before after : List ℕ} {at end : ℕ} → WrittenAt before at (line_of key r) after end → Lined (shows_for key o []) before at after (record { end = end; shown = 1 })
-    lined_some w = record { written = rw line_is w; counted = rw (found_some o r e) }
+    pub lined_some : {before after : Writer} → Wrote before (line_of key r) after → Lined (shows_for key o []) before after 1
+    lined_some w = record { wrote = rw line_is w; counted = rw (found_some o r e) }
 
   -- it shows none
-  pub lined_none : {before : List ℕ} {at : ℕ} → o ≡ none → Lined (shows_for key o []) before at before (record { end = at; shown = 0 })
+  pub lined_none : {before : Writer} → o ≡ none → Lined (shows_for key o []) before before 0
   unfolding text_of_shown
-  lined_none {before} {at} e = rw e (record { written = record { buffer = refl; place = sym (add-zero at) }; counted = refl })
+  lined_none e = rw e (record { wrote = wrote_none; counted = refl })

@@ -1,5 +1,6 @@
 -- The text of a listing in its pieces, and what a buffer holds after it. Assumes nothing.
 use Rattle.std.specs.Prelude.{Ok, Err}
+use denote.Ref.{MutBor}
 use Prim.Native.Nat.{ℕ, ◌+◌, ◌<◌, ◌≤◌}
 use native.Mathlib.Nat.{zero-add}
 use native.Mathlib.Omega.{arith}
@@ -12,7 +13,8 @@ use borrow.Author.Tests.{le-leb, lt-leb, leb-true}
 use Rattle.words.proofs.Laws.{splice_sets}
 use Rattle.numbers.specs.declared.Refusal.TheVariants.{Buffer}
 use Rattle.text.specs.Text.{decimal, field, named}
-use Rattle.text.specs.Inner.Written.{Ends, WrittenAt}
+use Rattle.text.specs.declared.Writer.{Writer}
+use Rattle.text.specs.Inner.Written.{Ends, Wrote}
 use Rattle.text.proofs.TextLaws.{decimal_short}
 use Rattle.layout.specs.Layout.{keys_in, arena_in}
 use Rattle.records.specs.Model.{Entry}
@@ -53,20 +55,20 @@ refused_ends r h = record { inside = omega (arith, refused_length r, decimal_sho
 
 -- ---- the buffer
 
-module _ {text before none rest : List ℕ} {size : ℕ} (measured : WrittenAt none 0 text rest size) where
-  pub lists_short : length before < size → Lists text before (Err Buffer) before
+module _ {text : List ℕ} {none : MutBor (List ℕ)} {measured : Writer} (m : Wrote (record { out = none; at = 0 }) text measured) where
+  pub lists_short : {before : List ℕ} → length before < measured.at → Lists text before (Err Buffer) before
   unfolding listed_of buffer_of
-  lists_short h =
-      let g = lt-leb (length text) (length before) (omega (arith, measured.place)) in
+  lists_short {before} h =
+      let g = lt-leb (length text) (length before) (omega (arith, m.place)) in
       record { answer = rw g; buffer = rw g }
 
-  pub lists_fit : {after : List ℕ} {end : ℕ} → size ≤ length before → WrittenAt before 0 text after end → Lists text before (Ok size) after
+  pub lists_fit : {out : MutBor (List ℕ)} {after : Writer} → measured.at ≤ length out.now → Wrote (record { out = out; at = 0 }) text after → Lists text out.now (Ok measured.at) after.out.now
   unfolding listed_of buffer_of
-  lists_fit h w =
-      let g = le-leb (length text) (length before) (omega (arith, measured.place)) in
+  lists_fit {out} h w =
+      let g = le-leb (length text) (length out.now) (omega (arith, m.place)) in
       record {
-        answer = rw g (ap Ok (measured.place ∙ zero-add (length text)));
-        buffer = rw g (w.buffer ∙ splice_sets before 0 text (omega (arith, measured.place)));
+        answer = rw g (ap Ok (m.place ∙ zero-add (length text)));
+        buffer = rw g (w.buffer ∙ splice_sets out.now 0 text (omega (arith, m.place)));
       }
 
 -- a text that is listed lies in the buffer

@@ -2,7 +2,7 @@
 #![tactic(auto)]
 
 ghost use Rattle.std.specs.Prelude.{◌≡◌, ℕ, List, length};
-ghost use Rattle.text.specs.Inner.Written.{Ends, WrittenAt};
+ghost use Rattle.text.specs.Inner.Written.{Ends, Wrote};
 ghost use Rattle.numbers.specs.Numbers.{number, number_of};
 ghost use Rattle.records.specs.Places.{entry_at};
 ghost use Rattle.records.specs.Within.{found_of};
@@ -11,6 +11,7 @@ ghost use Rattle.point.specs.Table.{table_of};
 ghost use Rattle.point.specs.Inner.Stands.{TableStands};
 ghost use Rattle.lines.specs.Shown.{newest_tombstone, shown, shown_of};
 ghost use Rattle.lines.specs.Listing.{kind_word, record_text, line_of, text_of_shown, lines_of, listing_header, table_text, refused_text, listing_refusal, Listing};
+ghost use Rattle.lines.specs.Inner.Limited.{Limited};
 ghost use Rattle.lines.specs.Inner.Steps.{tombstone_found, shown_by, Lined, Lists, Puts};
 
 use layout::Header;
@@ -18,6 +19,8 @@ use numbers::Refusal;
 use records::cursor::{key_at, next_entry};
 use records::search::entry_within;
 use records::{Kind, Record, Within};
+use std::marker::Model;
+use text::Writer;
 use words::field;
 
 // The bytes of an input before the body: u64 limit, u64 data length.
@@ -29,43 +32,36 @@ pub const MAX_INPUT: usize = 65_536;
 // Room that suffices for every text.
 pub const ROOM: usize = 131_072;
 
-// Lines that were written: the place after them, and how many there are.
-#[derive(Clone, Copy)]
-pub struct Lines {
-    pub end: usize,
-    pub shown: u64,
-}
-
 // Writes `put` or `tomb`, after a space.
-fn put_kind(out: &mut [u8], at: usize, kind: Kind) -> usize
-    requires { Ends at (kind_word kind) }
-    ensures { WrittenAt out.old at (kind_word kind) out.new result }
+fn put_kind(out: &mut Writer, kind: Kind)
+    requires { Ends out.old.at (kind_word kind) }
+    ensures { Wrote out.old (kind_word kind) out.new }
 {
     match kind {
-        Kind::Put => text::put_word(out, at, b" put"),
-        Kind::Tombstone => text::put_word(out, at, b" tomb"),
+        Kind::Put => out.put_word(b" put"),
+        Kind::Tombstone => out.put_word(b" tomb"),
     }
 }
 
 // Writes a record's part of its line, and the newline.
-fn put_record(out: &mut [u8], at: usize, version: Record) -> usize
-    requires { Ends at (record_text version) }
-    ensures { WrittenAt out.old at (record_text version) out.new result }
+fn put_record(out: &mut Writer, version: Record)
+    requires { Ends out.old.at (record_text version) }
+    ensures { Wrote out.old (record_text version) out.new }
 {
-    let a = text::put_field(out, at, version.sequence);
-    let b = put_kind(out, a, version.kind);
-    let c = text::put_field(out, b, version.offset);
-    let d = text::put_field(out, c, version.length as u64);
-    text::put_byte(out, d, b'\n')
+    out.put_field(version.sequence);
+    put_kind(out, version.kind);
+    out.put_field(version.offset);
+    out.put_field(version.length as u64);
+    out.put_byte(b'\n');
 }
 
 // Writes the line of a key with the record that it shows.
-fn put_line(out: &mut [u8], at: usize, key: &[u8], version: Record) -> usize
-    requires { Ends at (line_of key.now version) }
-    ensures { WrittenAt out.old at (line_of key.now version) out.new result }
+fn put_line(out: &mut Writer, key: &[u8], version: Record)
+    requires { Ends out.old.at (line_of key.now version) }
+    ensures { Wrote out.old (line_of key.now version) out.new }
 {
-    let next = text::put_key(out, at, key);
-    put_record(out, next, version)
+    out.put_key(key);
+    put_record(out, version);
 }
 
 // Whether a tombstone was found.
@@ -90,97 +86,118 @@ fn shown_at(body: &[u8], limit: u64, p: usize) -> Within
     entry_within(body, p, Some(limit))
 }
 
-// Writes the line of the entry at p, if it shows a record.
-fn put_entry(out: &mut [u8], at: usize, body: &[u8], limit: u64, p: usize) -> Lines
-    requires { EntryStands body.now p × Ends at (text_of_shown (shown_by newest_tombstone limit (entry_at body.now p))) }
-    ensures { Lined (shown_by newest_tombstone limit (entry_at body.now p)) out.old at out.new result }
+// Writes the line of the entry at p, if it shows a record; answers how many lines that is.
+fn put_entry(out: &mut Writer, body: &[u8], limit: u64, p: usize) -> u64
+    requires { EntryStands body.now p × Ends out.old.at (text_of_shown (shown_by newest_tombstone limit (entry_at body.now p))) }
+    ensures { Lined (shown_by newest_tombstone limit (entry_at body.now p)) out.old out.new result }
 {
     match shown_at(body, limit, p) {
         Within::Found(r) => {
-            let end = put_line(out, at, key_at(body, p), r);
-            Lines { end, shown: 1 }
+            put_line(out, key_at(body, p), r);
+            1
         }
-        Within::Nothing | Within::Damaged => Lines { end: at, shown: 0 },
+        Within::Nothing | Within::Damaged => 0,
     }
-}
-
-// Writes the lines of a body, in key order.
-fn put_lines(out: &mut [u8], at: usize, body: &[u8], limit: u64) -> Lines
-    requires { TableStands body.now × Ends at (lines_of newest_tombstone limit (table_of body.now)) }
-    ensures { Lined (shown_of newest_tombstone limit (table_of body.now)) out.old at out.new result }
-{
-    let mut end = at;
-    let mut shown: u64 = 0;
-    let header = Header::read(body);
-    let n = header.keys;
-    let mut p = header.arena as usize;
-    for _ in 0..n {
-        let l = put_entry(out, end, body, limit, p);
-        end = l.end;
-        shown += l.shown;
-        p = next_entry(body, p);
-    }
-    Lines { end, shown }
 }
 
 // Writes the header.
-fn put_header(out: &mut [u8], at: usize, limit: u64, keys: u64, shown: u64) -> usize
-    requires { Ends at (listing_header limit keys shown) }
-    ensures { WrittenAt out.old at (listing_header limit keys shown) out.new result }
+fn put_header(out: &mut Writer, limit: u64, keys: u64, shown: u64)
+    requires { Ends out.old.at (listing_header limit keys shown) }
+    ensures { Wrote out.old (listing_header limit keys shown) out.new }
 {
-    let a = text::put_named(out, at, b"limit", limit);
-    let b = text::put_named(out, a, b" keys", keys);
-    let c = text::put_named(out, b, b" shown", shown);
-    text::put_byte(out, c, b'\n')
+    out.put_named(b"limit", limit);
+    out.put_named(b" keys", keys);
+    out.put_named(b" shown", shown);
+    out.put_byte(b'\n');
 }
 
 // Writes `refused R`.
-fn put_refused(out: &mut [u8], at: usize, refusal: Refusal) -> usize
-    requires { Ends at (refused_text (number refusal)) }
-    ensures { WrittenAt out.old at (refused_text (number refusal)) out.new result }
+fn put_refused(out: &mut Writer, refusal: Refusal)
+    requires { Ends out.old.at (refused_text (number refusal)) }
+    ensures { Wrote out.old (refused_text (number refusal)) out.new }
 {
-    let next = text::put_named(out, at, b"refused", refusal.number() as u64);
-    text::put_byte(out, next, b'\n')
+    out.put_named(b"refused", refusal.number() as u64);
+    out.put_byte(b'\n');
 }
 
-// How many lines a body has: they are measured, and written nowhere.
-fn count_shown(body: &[u8], limit: u64) -> u64
-    requires { TableStands body.now × Ends 0 (lines_of newest_tombstone limit (table_of body.now)) }
-    ensures { result ≡ length (shown_of newest_tombstone limit (table_of body.now)) }
-{
-    put_lines(&mut [], 0, body, limit).shown
-}
-
-// Writes the listing of a body that shows so many keys.
-fn put_table(out: &mut [u8], at: usize, body: &[u8], limit: u64, shown: u64) -> usize
-    requires { TableStands body.now × (shown ≡ length (shown_of newest_tombstone limit (table_of body.now))) × Ends at (table_text newest_tombstone limit (table_of body.now)) }
-    ensures { WrittenAt out.old at (table_text newest_tombstone limit (table_of body.now)) out.new result }
-{
-    let keys = Header::read(body).keys as u64;
-    let next = put_header(out, at, limit, keys, shown);
-    put_lines(out, next, body, limit).end
-}
-
-// Lists what a writer puts into the buffer that it is lent: it is measured first, so nothing is written where the buffer is too short.
-fn list<F: Fn(&mut [u8]) -> usize>(out: &mut [u8], put: F) -> Result<usize, Refusal>
-    requires { F.IsAlwaysCallable put }
+// Lists what is put through a writer at the buffer's start: it is measured first, so nothing is written where the buffer is too short.
+fn list<F: Fn(&mut Writer)>(out: &mut [u8], put: F) -> Result<usize, Refusal>
+    requires { (w : _) → w.now.at ≡ 0 → F.pre put w }
     ensures { (text : List ℕ) → Puts F.Fn put text → Lists text out.old result out.new }
 {
-    let size = put(&mut []);
+    let mut measure = Writer {
+        out: &mut [],
+        at: 0,
+    };
+    put(&mut measure);
+    let size = measure.at;
     if out.len() < size {
         return Err(Refusal::Buffer);
     }
-    put(out);
+    put(&mut Writer { out, at: 0 });
     Ok(size)
 }
 
-// Lists a body.
-fn list_table(out: &mut [u8], body: &[u8], limit: u64) -> Result<usize, Refusal>
-    requires { TableStands body.now × Ends 0 (table_text newest_tombstone limit (table_of body.now)) }
-    ensures { Lists (table_text newest_tombstone limit (table_of body.now)) out.old result out.new }
-{
-    let shown = count_shown(body, limit);
-    list(out, |out| put_table(out, 0, body, limit, shown))
+// A body whose table stands, and the limit that it is listed under.
+#[derive(Drop)]
+struct Table<'a> {
+    body: &'a [u8],
+    limit: u64,
+}
+
+impl<'a> Model for Table<'a> {
+    ghost Value = { Limited };
+
+    ghost view = { λ t. record { limit = t.limit; body = t.body.now } };
+
+    ghost invariant = { λ t. TableStands t.body.now };
+}
+
+impl<'a> Table<'a> {
+    // Writes its lines, in key order; answers how many they are.
+    fn put_lines(&self, out: &mut Writer) -> u64
+        requires { Ends out.old.at (lines_of newest_tombstone self.now.limit (table_of self.now.body)) }
+        ensures { Lined (shown_of newest_tombstone self.now.limit (table_of self.now.body)) out.old out.new result }
+    {
+        let mut shown: u64 = 0;
+        let header = Header::read(self.body);
+        let n = header.keys;
+        let mut p = header.arena as usize;
+        for _ in 0..n {
+            shown += put_entry(out, self.body, self.limit, p);
+            p = next_entry(self.body, p);
+        }
+        shown
+    }
+
+    // How many lines it has: they are measured, and written nowhere.
+    fn count_shown(&self) -> u64
+        requires { Ends 0 (lines_of newest_tombstone self.now.limit (table_of self.now.body)) }
+        ensures { result ≡ length (shown_of newest_tombstone self.now.limit (table_of self.now.body)) }
+    {
+        self.put_lines(&mut Writer {
+            out: &mut [],
+            at: 0,
+        })
+    }
+
+    // Writes its listing, which shows so many keys.
+    fn put(&self, out: &mut Writer, shown: u64)
+        requires { (shown ≡ length (shown_of newest_tombstone self.now.limit (table_of self.now.body))) × Ends out.old.at (table_text newest_tombstone self.now.limit (table_of self.now.body)) }
+        ensures { Wrote out.old (table_text newest_tombstone self.now.limit (table_of self.now.body)) out.new }
+    {
+        put_header(out, self.limit, Header::read(self.body).keys as u64, shown);
+        self.put_lines(out);
+    }
+
+    // Lists it.
+    fn list(&self, out: &mut [u8]) -> Result<usize, Refusal>
+        requires { Ends 0 (table_text newest_tombstone self.now.limit (table_of self.now.body)) }
+        ensures { Lists (table_text newest_tombstone self.now.limit (table_of self.now.body)) out.old result out.new }
+    {
+        let shown = self.count_shown();
+        list(out, |out| self.put(out, shown))
+    }
 }
 
 // Refuses an input by 16, and by what validation refuses its body with.
@@ -198,7 +215,13 @@ pub fn listing(input: &[u8], out: &mut [u8]) -> Result<usize, Refusal>
     ensures { Listing newest_tombstone input.now out.old result out.new }
 {
     match check_input(input) {
-        Ok(()) => list_table(out, &input[BODY..], field::u64_at(input, 0)),
-        Err(refusal) => list(out, |out| put_refused(out, 0, refusal)),
+        Ok(()) => {
+            let table = Table {
+                body: &input[BODY..],
+                limit: field::u64_at(input, 0),
+            };
+            table.list(out)
+        }
+        Err(refusal) => list(out, |out| put_refused(out, refusal)),
     }
 }

@@ -2,7 +2,7 @@
 #![tactic(auto)]
 
 ghost use Rattle.std.specs.Prelude.{◌≡◌};
-ghost use Rattle.numbers.specs.Numbers.{number};
+ghost use Rattle.numbers.specs.Numbers.{number, number_of};
 
 #[derive(Clone, Copy, Debug, PartialEq, Eq)]
 pub enum Refusal {
@@ -91,5 +91,15 @@ impl Refusal {
         ensures { result ≡ number self }
     {
         self as u8
+    }
+}
+
+// The number of an answer: 0 of a value, else the refusal's.
+pub fn number_of<T>(answer: &Result<T, Refusal>) -> u8
+    ensures { result ≡ number_of answer.now }
+{
+    match answer {
+        Ok(_) => 0,
+        Err(refusal) => refusal.number(),
     }
 }

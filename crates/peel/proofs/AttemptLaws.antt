@@ -7,9 +7,9 @@ use Rattle.laws.proofs.CountLaws.{occurs_nil, occurs_cons, occurs_here}
 use Rattle.fuse.specs.Asking.{graph_hash, xor_at, contains_of}
 use Rattle.fuse.specs.Positions.{Usable, cells_in, positions_of}
 use Rattle.fuse.specs.declared.Sizes.{Sizes}
-use Rattle.peel.specs.declared.Graph.{Graph}
+use Rattle.peel.specs.declared.graph.Graph.{Graph}
 use Rattle.peel.specs.Peel.{Peel, after_steps, attempt, fill, put, peels_all, cells_after, mixed, succeeds, cells_laid, AttemptPost}
-use Rattle.peel.specs.Inner.Table.{GraphWhole, peels_in, StandsFor}
+use Rattle.peel.specs.Inner.Table.{cells_of, peels_in, StandsFor}
 use Rattle.peel.specs.Inner.Sound.{Placed}
 use Rattle.peel.proofs.PeelLaws.{sound_start, sound_run, queue_within, queued_once, run_ends, all_present}
 use Rattle.peel.proofs.PlaceLaws.{mixed_placed}
@@ -93,30 +93,30 @@ cells_length segment count seed hashes = fill_length (positions_of segment count
 
 -- ---- the outcome
 
-module _ (g : Graph) (w : GraphWhole g) (hashes before wide narrow : List ℕ) (top n : ℕ)
-    (R : StandsFor (positions_of g.segment g.count) g.cells (mixed g.seed hashes) (attempt (positions_of g.segment g.count) g.cells (mixed g.seed hashes)) wide narrow top n) where
-  whole_sum : n + length (attempt (positions_of g.segment g.count) g.cells (mixed g.seed hashes)).left ≡ length hashes
+module _ (g : Graph) (hashes before wide narrow : List ℕ) (top n : ℕ)
+    (R : StandsFor (cells_of g) g.cells (mixed g.seed hashes) (attempt (cells_of g) g.cells (mixed g.seed hashes)) wide narrow top n) where
+  whole_sum : n + length (attempt (cells_of g) g.cells (mixed g.seed hashes)).left ≡ length hashes
   whole_sum = all_peeled _ _ _ _ wide narrow top n R ∙ length-map hashes (graph_hash g.seed)
 
   pub peeled_fits : n ≤ length hashes
   peeled_fits = omega (arith, whole_sum)
 
-  pub attempt_short : n < length hashes → AttemptPost g.segment g.count g.seed hashes before before false
-  attempt_short l = record { answer = sym no; cells = ap (λ (b : Bool). cond b (cells_laid g.segment g.count g.seed hashes) before) (sym no) }
+  pub attempt_short : n < length hashes → AttemptPost g.segments.segment g.segments.count g.seed hashes before before false
+  attempt_short l = record { answer = sym no; cells = ap (λ (b : Bool). cond b (cells_laid g.segments.segment g.segments.count g.seed hashes) before) (sym no) }
     where
-      no : succeeds g.segment g.count g.seed hashes ≡ false
+      no : succeeds g.segments.segment g.segments.count g.seed hashes ≡ false
       no =
-          ap (λ (c : ℕ). peels_all (positions_of g.segment g.count) c (mixed g.seed hashes)) (sym w.whole)
+          ap (λ (c : ℕ). peels_all (cells_of g) c (mixed g.seed hashes)) (sym g.whole)
           ∙ peels_some _ g.cells (mixed g.seed hashes) (λ e. omega (arith, whole_sum))
 
-  pub attempt_whole : length hashes ≤ n → (after : List ℕ) → after ≡ fill (positions_of g.segment g.count) (peels_in g.cells n wide narrow) (replicate g.cells 0)
-      → AttemptPost g.segment g.count g.seed hashes before after true
-  attempt_whole l after e = record { answer = sym yes; cells = e ∙ full ∙ ap (λ (b : Bool). cond b (cells_laid g.segment g.count g.seed hashes) before) (sym yes) }
+  pub attempt_whole : length hashes ≤ n → (after : List ℕ) → after ≡ fill (cells_of g) (peels_in g.cells n wide narrow) (replicate g.cells 0)
+      → AttemptPost g.segments.segment g.segments.count g.seed hashes before after true
+  attempt_whole l after e = record { answer = sym yes; cells = e ∙ full ∙ ap (λ (b : Bool). cond b (cells_laid g.segments.segment g.segments.count g.seed hashes) before) (sym yes) }
     where
-      yes : succeeds g.segment g.count g.seed hashes ≡ true
+      yes : succeeds g.segments.segment g.segments.count g.seed hashes ≡ true
       yes =
-          ap (λ (c : ℕ). peels_all (positions_of g.segment g.count) c (mixed g.seed hashes)) (sym w.whole)
+          ap (λ (c : ℕ). peels_all (cells_of g) c (mixed g.seed hashes)) (sym g.whole)
           ∙ peels_all_lem _ g.cells (mixed g.seed hashes) (omega (arith, whole_sum))
 
-      full : fill (positions_of g.segment g.count) (peels_in g.cells n wide narrow) (replicate g.cells 0) ≡ cells_laid g.segment g.count g.seed hashes
-      full = filled_is (positions_of g.segment g.count) g.cells (mixed g.seed hashes) _ R.peeled ∙ ap (λ (c : ℕ). cells_after (positions_of g.segment g.count) c (mixed g.seed hashes)) w.whole
+      full : fill (cells_of g) (peels_in g.cells n wide narrow) (replicate g.cells 0) ≡ cells_laid g.segments.segment g.segments.count g.seed hashes
+      full = filled_is (cells_of g) g.cells (mixed g.seed hashes) _ R.peeled ∙ ap (λ (c : ℕ). cells_after (cells_of g) c (mixed g.seed hashes)) g.whole

@@ -5,9 +5,9 @@ use Rattle.laws.specs.Count.{occurs}
 use borrow.Author.Tests.{eqb-false}
 use Rattle.laws.proofs.CountLaws.{occurs_nil, occurs_other, occurs_none, occurs_apart}
 use Rattle.fuse.specs.Asking.{graph_hash}
-use Rattle.peel.specs.declared.Graph.{Graph}
+use Rattle.peel.specs.declared.graph.Graph.{Graph}
 use Rattle.peel.specs.Peel.{mixed}
-use Rattle.peel.specs.Inner.Table.{GraphWhole}
+use Rattle.peel.specs.Inner.Table.{cells_of}
 use Rattle.fuse.specs.Positions.{Usable, cells_in, cell_of, positions_of}
 use Rattle.fuse.proofs.AskLaws.{graph_lt}
 use Rattle.fuse.proofs.PositionLaws.{cell_below, cell_apart, position_at, positions_length}
@@ -28,12 +28,12 @@ positions_placed segment count h u b =
     at : (i : ℕ) → i < length (positions_of segment count h) → get_or (positions_of segment count h) i 0 ≡ cell_of segment count h i
     at i hi = position_at segment count h i (inside i hi)
 
--- sizes that belong together: the number of cells fits 32 bits, and each mixed hash has its four cells
-pub whole_small : (g : Graph) → GraphWhole g → g.cells < 2 ^ 32
-whole_small g w = rw w.whole w.usable.small
+-- a graph's sizes belong together: the number of cells fits 32 bits, and each mixed hash has its four cells
+pub whole_small : (g : Graph) → g.cells < 2 ^ 32
+whole_small g = rw g.whole g.segments.usable.small
 
-pub graph_placed : (g : Graph) → GraphWhole g → (seed hash h : ℕ) → h ≡ graph_hash seed hash → Placed g.cells (positions_of g.segment g.count) h
-graph_placed g w seed hash h e = rw w.whole (positions_placed g.segment g.count h w.usable (rw e (graph_lt seed hash)))
+pub graph_placed : (g : Graph) → (seed hash h : ℕ) → h ≡ graph_hash seed hash → Placed g.cells (cells_of g) h
+graph_placed g seed hash h e = rw g.whole (positions_placed g.segments.segment g.segments.count h g.segments.usable (rw e (graph_lt seed hash)))
 
 pub mixed_placed : (segment count : ℕ) → Usable segment count → (seed : ℕ) (hashes : List ℕ) (h : ℕ) → 1 ≤ occurs h (mixed seed hashes)
     → Placed (cells_in segment count) (positions_of segment count) h
@@ -43,5 +43,5 @@ mixed_placed segment count u seed (x ∷ hashes) h k =
     (λ e. positions_placed segment count h u (rw (eqb-true h (graph_hash seed x) e) (graph_lt seed x)))
     (λ e. mixed_placed segment count u seed hashes h (omega (arith, occurs_other h (graph_hash seed x) (mixed seed hashes) (eqb-false h (graph_hash seed x) e))))
 
-pub whole_placed : (g : Graph) → GraphWhole g → (hashes : List ℕ) (h : ℕ) → 1 ≤ occurs h (mixed g.seed hashes) → Placed g.cells (positions_of g.segment g.count) h
-whole_placed g w hashes h k = rw w.whole (mixed_placed g.segment g.count w.usable g.seed hashes h k)
+pub whole_placed : (g : Graph) → (hashes : List ℕ) (h : ℕ) → 1 ≤ occurs h (mixed g.seed hashes) → Placed g.cells (cells_of g) h
+whole_placed g hashes h k = rw g.whole (mixed_placed g.segments.segment g.segments.count g.segments.usable g.seed hashes h k)

@@ -3,9 +3,12 @@
 
 ghost use Rattle.std.specs.Prelude.{◌≡◌, ℕ, ◌+◌, ◌^◌, ◌<◌, ◌≤◌, List, [], length, ◌==◌, bit_xor, slice_index};
 ghost use Rattle.laws.specs.Count.{keep, rising};
-ghost use Rattle.fuse.specs.Positions.{positions_of};
 ghost use Rattle.peel.specs.Peel.{Attempt, one_step, begun, attempt, fill, mixed, AttemptPost};
-ghost use Rattle.peel.specs.Inner.Table.{stack, queued_by, changed, plus, peels_in, Queued, Tables, StandsFor, Below, GraphWhole};
+ghost use Rattle.peel.specs.Inner.Table.{cells_of, stack, queued_by, changed, plus, peels_in, Queued, Tables, StandsFor, Below};
+
+pub mod graph;
+
+use graph::Graph;
 
 // What a hash adds to the degrees of its cells, which wrap: 1 where it joins them, and 2^32 − 1, which is one less, where it leaves them.
 const JOINS: u32 = 1;
@@ -62,23 +65,14 @@ fn queue_cells(narrow: &mut [u32], c: usize, top: usize, cells: &[usize]) -> usi
     t
 }
 
-// One attempt's sizes: the seed, the segment, the count, and the number of cells.
-#[derive(Clone, Copy)]
-pub struct Graph {
-    pub seed: u64,
-    pub segment: usize,
-    pub count: usize,
-    pub cells: usize,
-}
-
 // Degrees and xors of the hashes, each mixed with the seed, over cleared tables.
 fn load(hashes: &[u64], wide: &mut [u64], narrow: &mut [u32], g: Graph)
-    requires { GraphWhole g × (length hashes.now + 1 < 2 ^ 32) × Tables (positions_of g.segment g.count) g.cells [] narrow.old wide.old }
-    ensures { Tables (positions_of g.segment g.count) g.cells (mixed g.seed hashes.now) narrow.new wide.new }
+    requires { (length hashes.now + 1 < 2 ^ 32) × Tables (cells_of g) g.cells [] narrow.old wide.old }
+    ensures { Tables (cells_of g) g.cells (mixed g.seed hashes.now) narrow.new wide.new }
 {
     for i in (0..hashes.len()).rev() {
         let h = fuse::graph_hash(g.seed, hashes[i]);
-        let four = fuse::positions(g.segment, g.count, h);
+        let four = g.segments.positions(h);
         change(narrow, wide, &four, h, JOINS);
     }
 }
@@ -92,10 +86,9 @@ struct Progress {
 
 // One step: the last cell of the queue is taken, and its one hash peeled if there is exactly one.
 fn step(wide: &mut [u64], narrow: &mut [u32], g: Graph, at: Progress) -> Progress
-    requires graph_whole { GraphWhole g }
-    requires by_index { (hs : List ℕ) × (s : Attempt) × StandsFor (positions_of g.segment g.count) g.cells hs s wide.old narrow.old at.top at.peeled }
-    ensures { (hs : List ℕ) (s : Attempt) → StandsFor (positions_of g.segment g.count) g.cells hs s wide.old narrow.old at.top at.peeled
-        → StandsFor (positions_of g.segment g.count) g.cells hs (one_step (positions_of g.segment g.count) s) wide.new narrow.new result.top result.peeled }
+    requires { (hs : List ℕ) × (s : Attempt) × StandsFor (cells_of g) g.cells hs s wide.old narrow.old at.top at.peeled }
+    ensures { (hs : List ℕ) (s : Attempt) → StandsFor (cells_of g) g.cells hs s wide.old narrow.old at.top at.peeled
+        → StandsFor (cells_of g) g.cells hs (one_step (cells_of g) s) wide.new narrow.new result.top result.peeled }
 {
     let top = at.top;
     let n = at.peeled;
@@ -112,7 +105,7 @@ fn step(wide: &mut [u64], narrow: &mut [u32], g: Graph, at: Progress) -> Progres
     let h = wide[p];
     wide[c + n] = h;
     narrow[c + c + n] = e;
-    let four = fuse::positions(g.segment, g.count, h);
+    let four = g.segments.positions(h);
     change(narrow, wide, &four, h, LEAVES);
     let u = queue_cells(narrow, c, t, &four);
     Progress {
@@ -123,13 +116,12 @@ fn step(wide: &mut [u64], narrow: &mut [u32], g: Graph, at: Progress) -> Progres
 
 // All steps of an attempt: as many as there are cells. The number of hashes peeled.
 fn peel_all(wide: &mut [u64], narrow: &mut [u32], g: Graph, top: usize) -> usize
-    requires graph_whole { GraphWhole g }
-    requires by_index { (hs : List ℕ) × StandsFor (positions_of g.segment g.count) g.cells hs (begun (positions_of g.segment g.count) g.cells hs) wide.old narrow.old top 0 }
-    ensures { (hs : List ℕ) → StandsFor (positions_of g.segment g.count) g.cells hs (begun (positions_of g.segment g.count) g.cells hs) wide.old narrow.old top 0
-        → (t : ℕ) × StandsFor (positions_of g.segment g.count) g.cells hs (attempt (positions_of g.segment g.count) g.cells hs) wide.new narrow.new t result }
+    requires { (hs : List ℕ) × StandsFor (cells_of g) g.cells hs (begun (cells_of g) g.cells hs) wide.old narrow.old top 0 }
+    ensures { (hs : List ℕ) → StandsFor (cells_of g) g.cells hs (begun (cells_of g) g.cells hs) wide.old narrow.old top 0
+        → (t : ℕ) × StandsFor (cells_of g) g.cells hs (attempt (cells_of g) g.cells hs) wide.new narrow.new t result }
 {
     let mut at = Progress { top, peeled: 0 };
-    for _turn in 0..g.cells {
+    for _ in 0..g.cells {
         at = step(wide, narrow, g, at);
     }
     at.peeled
@@ -137,23 +129,23 @@ fn peel_all(wide: &mut [u64], narrow: &mut [u32], g: Graph, top: usize) -> usize
 
 // The cells filled in reverse order of peeling.
 fn fill(cells: &mut [u8], wide: &[u64], narrow: &[u32], g: Graph, n: usize)
-    requires graph_whole { GraphWhole g × (length cells.old ≡ g.cells) × (g.cells + n ≤ length wide.now) × (g.cells + g.cells + n ≤ length narrow.now) }
+    requires room { (length cells.old ≡ g.cells) × (g.cells + n ≤ length wide.now) × (g.cells + g.cells + n ≤ length narrow.now) }
     requires by_index { (i : ℕ) → i < n → slice_index narrow.now (g.cells + g.cells + i) < g.cells }
-    ensures { cells.new ≡ fill (positions_of g.segment g.count) (peels_in g.cells n wide.now narrow.now) cells.old }
+    ensures { cells.new ≡ fill (cells_of g) (peels_in g.cells n wide.now narrow.now) cells.old }
 {
     let c = g.cells;
     for i in (0..n).rev() {
         let h = wide[c + i];
         let p = narrow[c + c + i] as usize;
-        let x = fuse::xor_cells(cells, g.segment, g.count, h);
+        let x = g.segments.xor(cells, h);
         cells[p] = (h % 256) as u8 ^ x;
     }
 }
 
 // All of an attempt up to the filling, over a workspace that may hold anything: the number of hashes peeled.
 fn peel_hashes(hashes: &[u64], wide: &mut [u64], narrow: &mut [u32], g: Graph) -> usize
-    requires { GraphWhole g × (length hashes.now + 1 < 2 ^ 32) × (g.cells + length hashes.now ≤ length wide.old) × (g.cells + g.cells + length hashes.now ≤ length narrow.old) }
-    ensures { (t : ℕ) × StandsFor (positions_of g.segment g.count) g.cells (mixed g.seed hashes.now) (attempt (positions_of g.segment g.count) g.cells (mixed g.seed hashes.now)) wide.new narrow.new t result }
+    requires { (length hashes.now + 1 < 2 ^ 32) × (g.cells + length hashes.now ≤ length wide.old) × (g.cells + g.cells + length hashes.now ≤ length narrow.old) }
+    ensures { (t : ℕ) × StandsFor (cells_of g) g.cells (mixed g.seed hashes.now) (attempt (cells_of g) g.cells (mixed g.seed hashes.now)) wide.new narrow.new t result }
 {
     let c = g.cells;
     wide[..c].fill(0);
@@ -171,8 +163,8 @@ pub fn attempt(
     cells: &mut [u8],
     g: Graph,
 ) -> bool
-    requires { GraphWhole g × (length hashes.now + 1 < 2 ^ 32) × (g.cells + length hashes.now ≤ length wide.old) × (g.cells + g.cells + length hashes.now ≤ length narrow.old) × (length cells.old ≡ g.cells) }
-    ensures { AttemptPost g.segment g.count g.seed hashes.now cells.old cells.new result }
+    requires { (length hashes.now + 1 < 2 ^ 32) × (g.cells + length hashes.now ≤ length wide.old) × (g.cells + g.cells + length hashes.now ≤ length narrow.old) × (length cells.old ≡ g.cells) }
+    ensures { AttemptPost g.segments.segment g.segments.count g.seed hashes.now cells.old cells.new result }
 {
     let n = peel_hashes(hashes, wide, narrow, g);
     if n < hashes.len() {

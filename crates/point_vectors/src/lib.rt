@@ -3,6 +3,7 @@
 
 ghost use Rattle.std.specs.Prelude.{◌≡◌, ◌+◌, ◌≤◌, length};
 
+use numbers::number_of;
 use point::Answer;
 use records::{Limit, Record};
 use std::io;
@@ -25,11 +26,8 @@ fn validate_agrees(base: &[u8], p: &[u8]) -> bool {
     if p.len() != at + 9 {
         return false;
     }
-    let number = vectors::u8_in(p, at + 8);
-    match point::validate(&room[..size], vectors::u64_in(p, at)) {
-        Ok(()) => number == 0,
-        Err(refusal) => refusal.number() == number,
-    }
+    let given = point::validate(&room[..size], vectors::u64_in(p, at));
+    number_of(&given) == vectors::u8_in(p, at + 8)
 }
 
 // The data that gets are lent: byte i is (i * 167 ^ (i / 256) * 59 ^ i / 65536) mod 256.

@@ -1,7 +1,6 @@
 -- Demand 3 of a filter, the queue's bound and the sizing rule, from the theorems of filter, peel and sizing. Assumes nothing.
 use Rattle.numbers.specs.declared.Refusal.{Refusal}
-use Rattle.std.specs.Prelude.{Result}
-use Rattle.std.specs.Prelude.{Err, Ok}
+use Rattle.std.specs.Prelude.{Result, Err, Ok}
 use Rattle.numbers.specs.Numbers.{number_of}
 use Prim.Native.Nat.{ℕ, ◌≤◌, ◌<◌}
 use native.Mathlib.Omega.{arith}

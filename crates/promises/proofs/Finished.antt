@@ -1,8 +1,7 @@
 -- Demand 3 of a list that was taken and finished: its used bytes are its arena, of which finish's theorems speak. Assumes nothing.
-use Rattle.std.specs.Prelude.{Ok, Result}
+use Rattle.std.specs.Prelude.{Ok, Result, None}
 use Rattle.numbers.specs.Numbers.{number_of}
 use Rattle.numbers.specs.declared.Refusal.{Refusal}
-use Rattle.std.specs.Prelude.{None}
 use Prim.Native.Nat.{ℕ, ◌+◌, ◌-◌, ◌<◌, ◌≤◌}
 use native.Mathlib.Omega.{arith}
 use mathlib.Core.Path.{◌≡◌, sym, ap, ◌∙◌, subst}

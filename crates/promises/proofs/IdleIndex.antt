@@ -1,9 +1,8 @@
 -- Idle indexes are shut out: one key is placed by computing, three are the example. Assumes nothing.
 use Rattle.numbers.specs.declared.Refusal.TheVariants.{Attempts}
-use Rattle.std.specs.Prelude.{Err, Ok, Result}
+use Rattle.std.specs.Prelude.{Err, Ok, Result, None}
 use Rattle.numbers.specs.Numbers.{answered, number_of}
 use Rattle.numbers.specs.declared.Refusal.{Refusal}
-use Rattle.std.specs.Prelude.{None}
 use Prim.Native.Nat.{ℕ, ◌+◌, ◌≤◌, ◌<◌}
 use native.Mathlib.Omega.{arith}
 use mathlib.Core.Path.{◌≡◌, refl, sym, ap, ◌∙◌, subst}

@@ -1,7 +1,6 @@
 -- What the desk reads, from the theorems of lines. Assumes nothing.
-use Rattle.std.specs.Prelude.{Ok, Result}
+use Rattle.std.specs.Prelude.{Ok, Result, None, Some}
 use Rattle.numbers.specs.declared.Refusal.{Refusal}
-use Rattle.std.specs.Prelude.{None, Some}
 use Prim.Native.Nat.{ℕ, ◌≤◌}
 use mathlib.Core.Path.{◌≡◌, refl, sym, ap, ap₂, ◌∙◌}
 use mathlib.Core.Bool.{Bool}

@@ -1,8 +1,7 @@
 -- Demand 3, "on any bytes that validation accepts for that data, each slot belongs to exactly one key, and asking for a key, with a sequence limit
 -- or none, gives that key's record of greatest sequence within the limit, or nothing exactly when no such record stands in the list".
 use Rattle.numbers.specs.declared.Refusal.{Refusal}
-use Rattle.std.specs.Prelude.{Ok}
-use Rattle.std.specs.Prelude.{ℕ, ◌+◌, ◌<◌, ◌≡◌, List, length}
+use Rattle.std.specs.Prelude.{Ok, ℕ, ◌+◌, ◌<◌, ◌≡◌, List, length}
 use Rattle.words.specs.Field.{AllBytes}
 use Rattle.layout.specs.Layout.{keys_in}
 use Rattle.records.specs.Limits.{Limit}

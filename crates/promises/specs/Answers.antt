@@ -1,9 +1,8 @@
 -- The last paragraph of document 01: the number and values of each answer that is an enum, in its cases that are no refusal; and that there is
 -- no other number. What each number above 0 is given for stands in `Refused`. A record for each answer; `Answers` says that all hold.
-use Rattle.std.specs.Prelude.{Err, Option, Result}
+use Rattle.std.specs.Prelude.{Err, Option, Result, ℕ, ◌+◌, ◌^◌, ◌<◌, ◌≤◌, ◌≡◌, true, cond, List, [], ◌∷◌, ◌++◌, ◌⊎◌, length, take}
 use Rattle.numbers.specs.Numbers.{number_of}
 use Rattle.numbers.specs.declared.Refusal.{Refusal}
-use Rattle.std.specs.Prelude.{ℕ, ◌+◌, ◌^◌, ◌<◌, ◌≤◌, ◌≡◌, true, cond, List, [], ◌∷◌, ◌++◌, ◌⊎◌, length, take}
 use Rattle.std.proofs.Math.Option.{none, some}
 use Rattle.laws.specs.Refusals.{First, None}
 use Rattle.words.specs.Field.{splice}
@@ -33,7 +32,7 @@ use Rattle.filter.specs.Building.{length_by, built_values, BuildPost}
 use Rattle.lines.specs.Shown.{Rule}
 use Rattle.lines.specs.Listing.{text_of, listed_values, Listing}
 
--- builder::Added: 0, the next state's words and the patch place; a refusal has no values
+-- of builder::PointBuilder::add: 0, the next state's words and the patch place; a refusal has no values
 pub record AddAnswers (s : PointBuilder) (buffer : List ℕ) (call : Call) : Type 0 where
   pub add_values : None (add_causes s buffer call)
       → (number_of (add_of s buffer call) ≡ 0)
@@ -42,7 +41,7 @@ pub record AddAnswers (s : PointBuilder) (buffer : List ℕ) (call : Call) : Typ
   pub add_refused_values : (n : ℕ) → First n (add_causes s buffer call)
       → (state_values (add_of s buffer call) ≡ []) × (added_values (add_of s buffer call) ≡ [])
 
--- construct::Constructed: 0 and the attempt, or 10
+-- of construct::construct: 0 and the attempt, or 10
 pub record ConstructAnswers (hashes : ℕ → List ℕ) (r : Option ℕ) : Type 0 where
   pub construct_values : (i : ℕ) (pl : Placing) → construct_of hashes ≡ some (i, pl) → (constructed_number r ≡ 0) × (constructed_values r ≡ i ∷ [])
   pub construct_refused_values : constructed_number r ≡ 10 → constructed_values r ≡ []
@@ -78,14 +77,14 @@ pub record GetAnswers (body : List ℕ) (size : ℕ) (key : List ℕ) (limit : L
   pub nothing_get : get_of body size key limit ≡ Nothing → answer_number (get_of body size key limit) ≡ 1
   pub get_numbers : (answer_number (get_of body size key limit) ≡ 0) ⊎ ((answer_number (get_of body size key limit) ≡ 1) ⊎ (answer_number (get_of body size key limit) ≡ 14))
 
--- filter::Written: 0 and the bytes written, exactly where reading accepts the filter and there is room
+-- of filter::write: 0 and the bytes written, exactly where reading accepts the filter and there is room
 pub record WriteAnswers (f : SstFilter) (cells out : List ℕ) (r : Result ℕ Refusal) (after : List ℕ) : Type 0 where
   pub whole_written : acceptable f (length cells) ≡ true → 48 + length cells ≤ length out
       → (number_of r ≡ 0) × (written_values r ≡ (48 + length cells) ∷ []) × (after ≡ splice out 0 (bytes_for f cells))
   pub written_whole : number_of r ≡ 0 → (acceptable f (length cells) ≡ true) × (48 + length cells ≤ length out)
   pub refused_unwritten : (w : Result ℕ Refusal) → 0 < number_of w → written_values w ≡ []
 
--- filter::Built: 0 and the bytes written (and `Filter`)
+-- of filter::build: 0 and the bytes written (and `Filter`)
 pub record BuildAnswers (r : Result Built Refusal) (out' : List ℕ) : Type 0 where
   pub zero_accepts : number_of r ≡ 0 → (q : Refusal) → r ≡ Err q → ⊥
   pub built_values_is : ((q : Refusal) → r ≡ Err q → ⊥) → built_values r ≡ length (take (length_by r) out') ∷ []
@@ -94,7 +93,7 @@ pub record BuildAnswers (r : Result Built Refusal) (out' : List ℕ) : Type 0 wh
 pub record Answers : Type 0 where
   pub add : (s : PointBuilder) (buffer : List ℕ) (call : Call) → AddAnswers s buffer call
   pub construct : {hashes : ℕ → List ℕ} {n : ℕ} {wide narrow : List ℕ} {r : Option ℕ} → ConstructPost hashes n wide narrow r → ConstructAnswers hashes r
-  -- finish::Finished: 0 and the body's length
+  -- of finish::finish: 0 and the body's length
   pub finish_values : (arena : List ℕ) (out wide narrow : ℕ)
       → number_of (finish_of arena out wide narrow) ≡ 0 → finished_values (finish_of arena out wide narrow) ≡ body_length arena (keys_of arena) ∷ []
   pub locating : (body key : List ℕ) → LocateAnswers body key
@@ -113,6 +112,6 @@ pub record Answers : Type 0 where
   pub write : {f : SstFilter} {cells out : List ℕ} {r : Result ℕ Refusal} {after : List ℕ} → WritePost f cells out r after → WriteAnswers f cells out r after
   pub build : {hashes wide narrow out : List ℕ} {r : Result Built Refusal} {hashes' wide' narrow' out' : List ℕ}
       → BuildPost hashes wide narrow out r hashes' wide' narrow' out' → BuildAnswers r out'
-  -- lines::Listed: 0 and the text's length, where there is room
+  -- of lines::listing: 0 and the text's length, where there is room
   pub room_values : {rule : Rule} {input before : List ℕ} {r : Result ℕ Refusal} {after : List ℕ} → Listing rule input before r after → length (text_of rule input) ≤ length before
       → (number_of r ≡ 0) × (listed_values r ≡ length (text_of rule input) ∷ []) × (after ≡ splice before 0 (text_of rule input))

@@ -1,8 +1,7 @@
 -- Document 01's example, keys A, B and C, with no hypothesis: the builder takes the list, attempt 0 places its keys, finish answers a body of 204
 -- bytes and which bytes, validation accepts it for data of 116 bytes, get reads it like the list, and its listing at limit 8 is the two lines.
-use Rattle.std.specs.Prelude.{Ok, Result}
+use Rattle.std.specs.Prelude.{Ok, Result, ℕ, ◌≤◌, ◌≡◌, List, [], ◌∷◌, ◌++◌, length, take}
 use Rattle.numbers.specs.declared.Refusal.{Refusal}
-use Rattle.std.specs.Prelude.{ℕ, ◌≤◌, ◌≡◌, List, [], ◌∷◌, ◌++◌, length, take}
 use Rattle.std.proofs.Math.Option.{some}
 use Rattle.words.specs.Field.{bytes_of}
 use Rattle.records.specs.Limits.{Limit}

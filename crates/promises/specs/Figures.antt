@@ -1,6 +1,5 @@
 -- The figures at the edges of document 01, P1 to P9, as one table over the written rules.
-use Rattle.std.specs.Prelude.{Ok}
-use Rattle.std.specs.Prelude.{ℕ, ◌-◌, ◌^◌, ◌≡◌, List, [], ◌∷◌, length}
+use Rattle.std.specs.Prelude.{Ok, ℕ, ◌-◌, ◌^◌, ◌≡◌, List, [], ◌∷◌, length}
 use Rattle.layout.specs.Layout.{arena_in}
 use Rattle.records.specs.Example.{example_arena}
 use Rattle.construct.specs.Construct.{buckets_of}

@@ -1,9 +1,8 @@
 -- Demand 3, "a filter built from a set of hashes never calls one of them absent", at the C boundary too; and document 01's bound on the queue, its
 -- rule over the sizing table, and that accepted bytes written again are the same bytes.
-use Rattle.std.specs.Prelude.{Ok, Result}
+use Rattle.std.specs.Prelude.{Ok, Result, ℕ, ◌+◌, ◌*◌, ◌^◌, ◌≤◌, ◌<◌, ◌≡◌, true, List, [], ◌∷◌, length, take, drop, get_or}
 use Rattle.numbers.specs.Numbers.{number_of}
 use Rattle.numbers.specs.declared.Refusal.{Refusal}
-use Rattle.std.specs.Prelude.{ℕ, ◌+◌, ◌*◌, ◌^◌, ◌≤◌, ◌<◌, ◌≡◌, true, List, [], ◌∷◌, length, take, drop, get_or}
 use Rattle.laws.specs.Count.{occurs}
 use Rattle.words.specs.Field.{splice}
 use Rattle.mixing.specs.Mixing.{mix_of}

@@ -1,9 +1,8 @@
 -- Demand 3, "an index is its record list translated, and reads like the list. If a list was taken and finished, and every record's offset plus
 -- length lies inside the data, tombstones too, validation accepts the result": on the very bytes that finish leaves.
-use Rattle.std.specs.Prelude.{Ok, Result}
+use Rattle.std.specs.Prelude.{Ok, Result, ℕ, ◌+◌, ◌*◌, ◌<◌, ◌≤◌, ◌≡◌, List, ◌⊎◌, length, take}
 use Rattle.numbers.specs.Numbers.{number_of}
 use Rattle.numbers.specs.declared.Refusal.{Refusal}
-use Rattle.std.specs.Prelude.{ℕ, ◌+◌, ◌*◌, ◌<◌, ◌≤◌, ◌≡◌, List, ◌⊎◌, length, take}
 use Rattle.words.specs.Field.{AllBytes}
 use Rattle.records.specs.Limits.{Limit}
 use Rattle.records.specs.Model.{Entry, lookup}

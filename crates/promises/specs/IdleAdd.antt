@@ -1,6 +1,5 @@
 -- An idle add is shut out: the first key into an empty builder fixes the next state, the place and every byte of the buffer.
-use Rattle.std.specs.Prelude.{Ok}
-use Rattle.std.specs.Prelude.{ℕ, ◌≡◌, true, List, [], ◌∷◌, replicate}
+use Rattle.std.specs.Prelude.{Ok, ℕ, ◌≡◌, true, List, [], ◌∷◌, replicate}
 use Rattle.records.specs.declared.Kind.TheVariants.{Put}
 use Rattle.builder.specs.declared.PointBuilder.{PointBuilder}
 use Rattle.builder.specs.Add.{Added}

@@ -1,7 +1,6 @@
 -- An idle filter is shut out: for one hash, whatever it is, no call that meets build's contract answers Positive, since the first attempt
 -- peels it.
-use Rattle.std.specs.Prelude.{Ok}
-use Rattle.std.specs.Prelude.{ℕ, ◌≡◌, true, List, [], ◌∷◌}
+use Rattle.std.specs.Prelude.{Ok, ℕ, ◌≡◌, true, List, [], ◌∷◌}
 use Rattle.fuse.specs.Positions.{Usable}
 use Rattle.peel.specs.Peel.{succeeds}
 use Rattle.filter.specs.declared.Built.TheVariants.{Positive}

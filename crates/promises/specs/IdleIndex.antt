@@ -1,8 +1,7 @@
 -- Idle indexes are shut out: a finish that answers 10 each time, a get that always says nothing, an index that places only its first key.
 use Rattle.numbers.specs.declared.Refusal.TheVariants.{Attempts}
-use Rattle.std.specs.Prelude.{Err, Ok, Result}
+use Rattle.std.specs.Prelude.{Err, Ok, Result, ℕ, ◌<◌, ◌≡◌, List, [], ◌∷◌, ◌⊎◌, length, take, None}
 use Rattle.numbers.specs.declared.Refusal.{Refusal}
-use Rattle.std.specs.Prelude.{ℕ, ◌<◌, ◌≡◌, List, [], ◌∷◌, ◌⊎◌, length, take, None}
 use Rattle.records.specs.declared.Kind.TheVariants.{Put, Tombstone}
 use Rattle.records.specs.declared.Record.{Record}
 use Rattle.records.specs.Example.{example_arena}

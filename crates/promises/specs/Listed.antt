@@ -1,9 +1,8 @@
 -- What the desk reads: the text that a listing puts in front of its buffer is `refused R` exactly for R's first cause, and else the table's; of
 -- an accepted body, which keys have a line and with which record, one line for each, in rising order, as many as the header says; and
 -- 131,072 bytes of room always suffice.
-use Rattle.std.specs.Prelude.{Ok, Result}
+use Rattle.std.specs.Prelude.{Ok, Result, ℕ, ◌≤◌, ◌≡◌, false, ◌⊎◌, length, take, None, Some}
 use Rattle.numbers.specs.declared.Refusal.{Refusal}
-use Rattle.std.specs.Prelude.{ℕ, ◌≤◌, ◌≡◌, false, ◌⊎◌, length, take, None, Some}
 use mathlib.Core.List.{List, ◌++◌, Memᴰ}
 use Rattle.std.proofs.Math.Option.{some}
 use Rattle.words.specs.Field.{AllBytes}

@@ -1,10 +1,9 @@
 -- Demand 1, "a refused call gives the number listed for its cause and changes nothing lent to it, except the zeroed workspace document 01 names":
 -- of whatever meets a call's contract, a number above 0 is that whose cause is the first that holds, and nothing lent is changed but the
 -- zeroed workspace; and where a cause is the first that holds, its number is given. A record for each call; `Demand1` says that all hold.
-use Rattle.std.specs.Prelude.{Result}
+use Rattle.std.specs.Prelude.{Result, ℕ, suc, ◌+◌, ◌<◌, ◌≤◌, ◌≡◌, true, false, List, length, replicate}
 use Rattle.numbers.specs.Numbers.{number_of}
 use Rattle.numbers.specs.declared.Refusal.{Refusal}
-use Rattle.std.specs.Prelude.{ℕ, suc, ◌+◌, ◌<◌, ◌≤◌, ◌≡◌, true, false, List, length, replicate}
 use Rattle.laws.specs.Refusals.{First}
 use Rattle.words.specs.Field.{AllBytes}
 use Rattle.records.specs.Limits.{Limit}

@@ -1,7 +1,6 @@
 -- Two results that meet a public call's contract coincide, every lent byte and word included: a sentence for each call, no exception.
-use Rattle.std.specs.Prelude.{Result}
+use Rattle.std.specs.Prelude.{Result, ℕ, ◌≡◌, List}
 use Rattle.numbers.specs.declared.Refusal.{Refusal}
-use Rattle.std.specs.Prelude.{ℕ, ◌≡◌, List}
 use Rattle.mixing.specs.Mixing.{mix_of, hash_of}
 use Rattle.records.specs.Limits.{Limit}
 use Rattle.builder.specs.declared.PointBuilder.{PointBuilder}

@@ -1,9 +1,8 @@
 -- 10 is given: two keys of 16 bytes have equal hashes under each of the eight seeds, so a list of them is taken and no attempt places it; whatever
 -- meets finish's contract on its used bytes, with room, answers 10.
-use Rattle.std.specs.Prelude.{Result}
+use Rattle.std.specs.Prelude.{Result, ℕ, ◌≤◌, ◌<◌, ◌≡◌, List, [], ◌∷◌, length, take}
 use Rattle.numbers.specs.Numbers.{number_of}
 use Rattle.numbers.specs.declared.Refusal.{Refusal}
-use Rattle.std.specs.Prelude.{ℕ, ◌≤◌, ◌<◌, ◌≡◌, List, [], ◌∷◌, length, take}
 use Rattle.records.specs.declared.Kind.TheVariants.{Put}
 use Rattle.records.specs.Model.{Entry, table_bytes}
 use Rattle.builder.specs.declared.PointBuilder.{PointBuilder}

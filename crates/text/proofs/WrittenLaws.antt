@@ -2,31 +2,37 @@
 use Prim.Native.Nat.{ℕ, zero, suc, ◌+◌, ◌/◌, ◌%◌, ◌<◌}
 use native.Mathlib.Nat.{add-zero, add-suc, suc-add, add_assoc}
 use native.Mathlib.Omega.{arith}
-use mathlib.Core.Path.{◌≡◌, sym, ◌∙◌}
+use mathlib.Core.Path.{◌≡◌, refl, sym, ◌∙◌}
 use mathlib.Core.List.{List, [], ◌∷◌, ◌++◌}
 use lib.ListN.{length, get_or, take, length-append}
 use lib.Seq.{sets}
+use Rattle.text.specs.declared.Writer.{Writer}
 use Rattle.text.specs.Text.{hex_digit, hex_of}
-use Rattle.text.specs.Inner.Written.{Ends, WrittenAt}
+use Rattle.text.specs.Inner.Written.{Ends, Wrote}
 
-pub sets_append : (before : List ℕ) (at : ℕ) (s t : List ℕ) → sets before at (s ++ t) ≡ sets (sets before at s) (at + length s) t
+sets_append : (before : List ℕ) (at : ℕ) (s t : List ℕ) → sets before at (s ++ t) ≡ sets (sets before at s) (at + length s) t
 sets_append before at [] t = rw add-zero
 sets_append before at (x ∷ s) t = sets_append _ (suc at) s t ∙ rw (suc-add, add-suc)
 
-module _ {before middle after s t : List ℕ} {at place end : ℕ} where
+-- where nothing was put
+pub wrote_none : {w : Writer} → Wrote w [] w
+wrote_none {w} = record { same = refl; buffer = refl; place = sym (add-zero w.at) }
+
+module _ {before middle after : Writer} {s t : List ℕ} where
   -- a text and then another
-  pub written_then : WrittenAt before at s middle place → WrittenAt middle place t after end → WrittenAt before at (s ++ t) after end
-  written_then v w =
+  pub wrote_then : Wrote before s middle → Wrote middle t after → Wrote before (s ++ t) after
+  wrote_then v w =
       record {
-        buffer = w.buffer ∙ rw (v.buffer, v.place) (sym (sets_append before at s t));
-        place = w.place ∙ rw (v.place, length-append) (add_assoc at (length s) (length t));
+        same = w.same ∙ v.same;
+        buffer = w.buffer ∙ rw (v.buffer, v.place) (sym (sets_append before.out.now before.at s t));
+        place = w.place ∙ rw (v.place, length-append) (add_assoc before.at (length s) (length t));
       }
 
 -- where a text of two parts ends at a place that can be named, so does its first part, and so does its second behind the first
 pub ends_first : {at : ℕ} {s : List ℕ} (t : List ℕ) → Ends at (s ++ t) → Ends at s
 ends_first t h = record { inside = omega (arith, rw length-append at h.inside) }
 
-pub ends_second : {before s middle t : List ℕ} {at place : ℕ} → WrittenAt before at s middle place → Ends at (s ++ t) → Ends place t
+pub ends_second : {before middle : Writer} {s t : List ℕ} → Wrote before s middle → Ends before.at (s ++ t) → Ends middle.at t
 ends_second w h = record { inside = omega (arith, rw length-append at h.inside, w.place) }
 
 -- a byte more, in hex

@@ -1,55 +1,97 @@
 // Text written into a lent buffer, a piece after the other. A piece that passes the buffer's end is cut off there, so the same
-// writers, lent an empty buffer, measure a text.
+// writer, lent an empty buffer, measures a text.
 #![tactic(auto)]
 
-ghost use Rattle.std.specs.Prelude.{◌≡◌, [], ◌∷◌, ◌<◌, set};
+ghost use Rattle.std.specs.Prelude.{◌≡◌, [], ◌∷◌, ◌<◌};
 ghost use Rattle.text.specs.Text.{decimal, hex_digit, hex_of, key_text, field, named};
-ghost use Rattle.text.specs.Inner.Written.{Ends, WrittenAt};
+ghost use Rattle.text.specs.Inner.Written.{Ends, Wrote};
 
-// Stores a byte, if its place is in the buffer.
-fn store(out: &mut [u8], at: usize, b: u8)
-    ensures { out.new ≡ set out.old at b }
-{
-    if at < out.len() {
-        out[at] = b;
-    }
+// A lent buffer, and the place in it where the next piece goes.
+#[derive(Drop)]
+pub struct Writer<'a> {
+    pub out: &'a mut [u8],
+    pub at: usize,
 }
 
-// Writes a byte.
-pub fn put_byte(out: &mut [u8], at: usize, b: u8) -> usize
-    requires { Ends at (b ∷ []) }
-    ensures { WrittenAt out.old at (b ∷ []) out.new result }
-{
-    store(out, at, b);
-    at + 1
-}
-
-// Writes bytes as they are.
-pub fn put_word(out: &mut [u8], at: usize, word: &[u8]) -> usize
-    requires { Ends at word.now }
-    ensures { WrittenAt out.old at word.now out.new result }
-{
-    for (i, b) in word.iter().enumerate() {
-        store(out, at + i, *b);
+impl Writer<'_> {
+    // Writes a byte.
+    pub fn put_byte(&mut self, b: u8)
+        requires { Ends self.old.at (b ∷ []) }
+        ensures { Wrote self.old (b ∷ []) self.new }
+    {
+        if self.at < self.out.len() {
+            self.out[self.at] = b;
+        }
+        self.at += 1;
     }
-    at + word.len()
-}
 
-// Writes a number in decimal digits, laid down from the last one at the end of an array: 2^64 - 1 has 20.
-fn put_decimal(out: &mut [u8], at: usize, n: u64) -> usize
-    requires { Ends at (decimal n) }
-    ensures { WrittenAt out.old at (decimal n) out.new result }
-{
-    let mut digits = [0; 20];
-    let mut from = 19;
-    let mut rest = n;
-    while 10 <= rest {
-        digits[from] = b'0' + (rest % 10) as u8;
-        from -= 1;
-        rest /= 10;
+    // Writes bytes as they are.
+    pub fn put_word(&mut self, word: &[u8])
+        requires { Ends self.old.at word.now }
+        ensures { Wrote self.old word.now self.new }
+    {
+        for &b in word {
+            self.put_byte(b);
+        }
     }
-    digits[from] = b'0' + rest as u8;
-    put_word(out, at, &digits[from..])
+
+    // Writes a number in decimal digits, laid down from the last one at the end of an array: 2^64 - 1 has 20.
+    fn put_decimal(&mut self, n: u64)
+        requires { Ends self.old.at (decimal n) }
+        ensures { Wrote self.old (decimal n) self.new }
+    {
+        let mut digits = [0; 20];
+        let mut from = 19;
+        let mut rest = n;
+        while 10 <= rest {
+            digits[from] = b'0' + (rest % 10) as u8;
+            from -= 1;
+            rest /= 10;
+        }
+        digits[from] = b'0' + rest as u8;
+        self.put_word(&digits[from..]);
+    }
+
+    // Writes bytes in lower-case hex.
+    fn put_hex(&mut self, bytes: &[u8])
+        requires { Ends self.old.at (hex_of bytes.now) }
+        ensures { Wrote self.old (hex_of bytes.now) self.new }
+    {
+        for &b in bytes {
+            self.put_byte(hex_digit(b / 16));
+            self.put_byte(hex_digit(b % 16));
+        }
+    }
+
+    // Writes a key in lower-case hex, `-` if it is empty.
+    pub fn put_key(&mut self, key: &[u8])
+        requires { Ends self.old.at (key_text key.now) }
+        ensures { Wrote self.old (key_text key.now) self.new }
+    {
+        if key.is_empty() {
+            self.put_byte(b'-');
+        } else {
+            self.put_hex(key);
+        }
+    }
+
+    // Writes a space and a number.
+    pub fn put_field(&mut self, n: u64)
+        requires { Ends self.old.at (field n) }
+        ensures { Wrote self.old (field n) self.new }
+    {
+        self.put_byte(b' ');
+        self.put_decimal(n);
+    }
+
+    // Writes a word, a space and a number.
+    pub fn put_named(&mut self, word: &[u8], n: u64)
+        requires { Ends self.old.at (named word.now n) }
+        ensures { Wrote self.old (named word.now n) self.new }
+    {
+        self.put_word(word);
+        self.put_field(n);
+    }
 }
 
 // A digit in lower-case hex.
@@ -58,46 +100,4 @@ fn hex_digit(d: u8) -> u8
     ensures { result ≡ hex_digit d }
 {
     if d < 10 { b'0' + d } else { b'a' + (d - 10) }
-}
-
-// Writes bytes in lower-case hex.
-fn put_hex(out: &mut [u8], at: usize, bytes: &[u8]) -> usize
-    requires { Ends at (hex_of bytes.now) }
-    ensures { WrittenAt out.old at (hex_of bytes.now) out.new result }
-{
-    let mut p = at;
-    for b in bytes {
-        p = put_byte(out, p, hex_digit(*b / 16));
-        p = put_byte(out, p, hex_digit(*b % 16));
-    }
-    p
-}
-
-// Writes a key in lower-case hex, `-` if it is empty.
-pub fn put_key(out: &mut [u8], at: usize, key: &[u8]) -> usize
-    requires { Ends at (key_text key.now) }
-    ensures { WrittenAt out.old at (key_text key.now) out.new result }
-{
-    if key.is_empty() {
-        return put_byte(out, at, b'-');
-    }
-    put_hex(out, at, key)
-}
-
-// Writes a space and a number.
-pub fn put_field(out: &mut [u8], at: usize, n: u64) -> usize
-    requires { Ends at (field n) }
-    ensures { WrittenAt out.old at (field n) out.new result }
-{
-    let next = put_byte(out, at, b' ');
-    put_decimal(out, next, n)
-}
-
-// Writes a word, a space and a number.
-pub fn put_named(out: &mut [u8], at: usize, word: &[u8], n: u64) -> usize
-    requires { Ends at (named word.now n) }
-    ensures { WrittenAt out.old at (named word.now n) out.new result }
-{
-    let next = put_word(out, at, word);
-    put_field(out, next, n)
 }

@@ -10,26 +10,27 @@ use Rattle.lines.proofs.TextLaws.{refused_ends}
 use Rattle.lines.proofs.CauseLaws.{refusal_low}
 use Rattle.lines.proofs.listing.Goals as goal
 
-pub slice_bounds-list_table-count : goal.slice_bounds-list_table-count
-slice_bounds-list_table-count c = omega (arith, listable_long (unrefused _ (sym c.in-Ok.ensures)))
+pub slice_bounds-table-count : goal.slice_bounds-table-count
+slice_bounds-table-count c = omega (arith, listable_long (unrefused _ (sym c.in-Ok.ensures)))
 
-pub slice_bounds-list_table-start : goal.slice_bounds-list_table-start
-slice_bounds-list_table-start c = let t = listable_long (unrefused _ (sym c.in-Ok.ensures)) in search rules
+pub slice_bounds-table-start : goal.slice_bounds-table-start
+slice_bounds-table-start c = let t = listable_long (unrefused _ (sym c.in-Ok.ensures)) in search rules
 
 pub u64_at-requires : goal.u64_at-requires
 u64_at-requires c = omega (arith, listable_long (unrefused _ (sym c.in-Ok.ensures)))
 
-pub list_table-requires : goal.list_table-requires
-list_table-requires c =
-    let t = unrefused _ (sym c.in-Ok.ensures) in
-    (listable_stands t, listable_ends _ t (λ i. (c.type_inv.input i).fits) _ c.u64_at.ensures)
-
-pub returns-in-Ok : goal.returns-in-Ok
-returns-in-Ok c = table_listing _ (λ i. (c.type_inv.input i).fits) (sym c.in-Ok.ensures) c.u64_at.ensures c.list_table.ensures
+pub invariant_of-table : goal.invariant_of-table
+invariant_of-table c = listable_stands (unrefused _ (sym c.in-Ok.ensures))
 
 pub list-requires : goal.list-requires
-list-requires c = let e = refused_ends _ (refusal_low _ _ c.in-Err.ensures) in search rules
+list-requires c = listable_ends _ (unrefused _ (sym c.in-Ok.ensures)) (λ i. (c.type_inv.input i).fits) _ c.u64_at.ensures
+
+pub returns-in-Ok : goal.returns-in-Ok
+returns-in-Ok c = table_listing _ (λ i. (c.type_inv.input i).fits) (sym c.in-Ok.ensures) c.u64_at.ensures c.list.ensures
+
+pub list-requires-in-Err : goal.list-requires-in-Err
+list-requires-in-Err c = let e = refused_ends _ (refusal_low _ _ c.in-Err.ensures) in search rules
 
 pub returns-in-Err : goal.returns-in-Err
 returns-in-Err c =
-    refused_listing _ (refusal_low _ _ c.in-Err.ensures) c.in-Err.ensures (number_nonzero _) (c.list.ensures (refused_text (number c.in-Err.refusal)) (search rules))
+    refused_listing _ (refusal_low _ _ c.in-Err.ensures) c.in-Err.ensures (number_nonzero _) (c.list-in-Err.ensures (refused_text (number c.in-Err.refusal)) (search rules))

@@ -7,9 +7,9 @@ use Rattle.lines.specs.Shown.{newest_tombstone, shown}
 use Rattle.lines.proofs.LinesLaws.{line_ends, lined_some, lined_none}
 use Rattle.lines.proofs.put_entry.Goals as goal
 
-pub put_line-end-requires : goal.put_line-end-requires
+pub put_line-requires : goal.put_line-requires
 unfolding entry_at
-put_line-end-requires c = let a = c.args in
+put_line-requires c = let a = c.args in
     rw c.key_at.ensures
     (line_ends (entry_at a.body.now a.p).key (shown newest_tombstone a.limit (entry_at a.body.now a.p)) _
     (sym c.in-Found.ensures) c.requires.1)
@@ -19,7 +19,7 @@ unfolding entry_at
 returns-in-Found c = let a = c.args in
     lined_some (entry_at a.body.now a.p).key (shown newest_tombstone a.limit (entry_at a.body.now a.p)) _
     (sym c.in-Found.ensures)
-    (rw c.key_at.ensures at c.put_line-end.ensures)
+    (rw c.key_at.ensures at c.put_line.ensures)
 
 pub returns-in-Nothing : goal.returns-in-Nothing
 returns-in-Nothing c = let a = c.args in

@@ -2,12 +2,12 @@
 use Rattle.std.specs.Prelude.{ℕ, ◌≡◌, Bool, false, List, [], length, Result}
 use denote.Ref.{MutBor}
 use Rattle.std.specs.Fn.{Shared}
-use Rattle.text.specs.Inner.Written.{WrittenAt}
+use Rattle.text.specs.declared.Writer.{Writer}
+use Rattle.text.specs.Inner.Written.{Wrote}
 use Rattle.numbers.specs.declared.Refusal.{Refusal}
 use Rattle.records.specs.declared.Within.{Within}
 use Rattle.records.specs.declared.Within.TheVariants.{Found, Nothing, Damaged}
 use Rattle.records.specs.Model.{Entry}
-use Rattle.lines.specs.declared.Lines.{Lines}
 use Rattle.lines.specs.Shown.{Rule, is_tombstone, shown, Shows, shows_for}
 use Rattle.lines.specs.Listing.{text_of_shown, listed_of, buffer_of}
 
@@ -21,16 +21,16 @@ tombstone_found Damaged = false
 abbrev pub shown_by : Rule → ℕ → Entry → List Shows
 shown_by rule limit e = shows_for e.key (shown rule limit e) []
 
--- what a writer of lines leaves: the lines of the keys shown from `at` on, and how many they are
-pub record Lined (shows : List Shows) (before : List ℕ) (at : ℕ) (after : List ℕ) (l : Lines) : Type 0 where
-  pub written : WrittenAt before at (text_of_shown shows) after l.end
-  pub counted : l.shown ≡ length shows
+-- what is left where the lines of the keys shown were written, and how many they are
+pub record Lined (shows : List Shows) (before after : Writer) (count : ℕ) : Type 0 where
+  pub wrote : Wrote before (text_of_shown shows) after
+  pub counted : count ≡ length shows
 
 -- what a call that puts a text into a buffer leaves
 pub record Lists (text before : List ℕ) (r : Result ℕ Refusal) (after : List ℕ) : Type 0 where
   pub answer : r ≡ listed_of text before
   pub buffer : after ≡ buffer_of text before
 
--- a writer puts a text at the start of whatever buffer it is lent
-pub record Puts {F : Type 0} (g : Shared F (MutBor (List ℕ) × Unit {0}) (ℕ × (MutBor (List ℕ) × Unit {0}))) (f : F) (text : List ℕ) : Type 0 where
-  pub puts : (before after : MutBor (List ℕ)) (r : ℕ) → g.post f (before, tt) (r, (after, tt)) → WrittenAt before.now 0 text after.now r
+-- a call puts a text through whatever writer it is lent
+pub record Puts {F : Type 0} (g : Shared F (MutBor Writer × Unit {0}) (Unit {0} × (MutBor Writer × Unit {0}))) (f : F) (text : List ℕ) : Type 0 where
+  pub puts : (before after : MutBor Writer) → g.post f (before, tt) (tt, (after, tt)) → Wrote before.now text after.now

@@ -7,7 +7,7 @@ pub loop-i-preserved : goal.loop-i-preserved
 loop-i-preserved c = let s = c in
     let l = c.loop-i in (
       simp length-set l.invariant.0,
-      fill_turn _ s.args.g.cells s.args.wide.now s.args.narrow.now l.cells _ l.i _ (omega arith) c.xor_cells-x.ensures l.invariant.1,
+      fill_turn _ s.args.g.cells s.args.wide.now s.args.narrow.now l.cells _ l.i _ (omega arith) c.xor-x.ensures l.invariant.1,
     )
 
 pub returns : goal.returns

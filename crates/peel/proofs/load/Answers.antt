@@ -13,7 +13,7 @@ change-requires c = let s = c in
     let l = c.loop-i in
     let a = s.args in
     let ps = c.positions-four.ensures in
-    let k = graph_placed a.g s.requires.0 _ _ _ c.graph_hash-h.ensures in
+    let k = graph_placed a.g _ _ _ c.graph_hash-h.ensures in
     rw ps ((λ v z. k.below v (omega (arith, l.invariant.2.degrees))), λ v z. k.below v (omega (arith, l.invariant.2.mixes)))
 
 pub loop-i-preserved : goal.loop-i-preserved
@@ -26,6 +26,6 @@ loop-i-preserved c = let s = c in
       search rules,
       tables_load _ a.g.cells (mixed a.g.seed a.hashes.now) _ _ _ _ _ _ l.i (omega arith) (omega arith)
           (k ∙ sym (map_at (graph_hash a.g.seed) a.hashes.now (l.i - 1) (omega arith)))
-          c.positions-four.ensures (graph_placed a.g s.requires.0 _ _ _ k) (omega arith) l.invariant.2 c.change.ensures.0
+          c.positions-four.ensures (graph_placed a.g _ _ _ k) (omega arith) l.invariant.2 c.change.ensures.0
           c.change.ensures.1,
     )

@@ -1,10 +1,9 @@
 -- Degrees and xors of the mixed hashes. Assumes nothing.
 use Rattle.std.proofs.Common.{◌≡◌, length, drop}
-use Rattle.fuse.specs.Positions.{positions_of}
 use Rattle.peel.specs.Peel.{mixed}
-use Rattle.peel.specs.Inner.Table.{Tables}
+use Rattle.peel.specs.Inner.Table.{cells_of, Tables}
 use Rattle.peel.proofs.load.Given as goal
 
 abbrev pub invariant-loop-i : goal.invariant-loop-i
 invariant-loop-i l = (length l.wide ≡ length l.initial.wide) × (length l.narrow ≡ length l.initial.narrow)
-    × Tables (positions_of l.g.segment l.g.count) l.g.cells (drop l.i (mixed l.g.seed l.hashes)) l.narrow l.wide
+    × Tables (cells_of l.g) l.g.cells (drop l.i (mixed l.g.seed l.hashes)) l.narrow l.wide

@@ -32,43 +32,43 @@ returns-then-top-eq0 c = λ hs s R.
     rw k R
 
 pub overflow_add-e : goal.overflow_add-e
-overflow_add-e c = omega (arith, queue_in _ _ _ _ _ _ _ _ c.if-top-eq0.false c.requires.by_index.2)
+overflow_add-e c = omega (arith, queue_in _ _ _ _ _ _ _ _ c.if-top-eq0.false c.requires.2)
 
 pub offset_bounds-narrow-c : goal.offset_bounds-narrow-c
-offset_bounds-narrow-c c = omega (arith, queue_in _ _ _ _ _ _ _ _ c.if-top-eq0.false c.requires.by_index.2)
+offset_bounds-narrow-c c = omega (arith, queue_in _ _ _ _ _ _ _ _ c.if-top-eq0.false c.requires.2)
 
 pub bounds-narrow-c : goal.bounds-narrow-c
-bounds-narrow-c c = queue_in _ _ _ _ _ _ _ _ c.if-top-eq0.false c.requires.by_index.2
+bounds-narrow-c c = queue_in _ _ _ _ _ _ _ _ c.if-top-eq0.false c.requires.2
 
 pub bounds-narrow-p : goal.bounds-narrow-p
-bounds-narrow-p c = (cell_in _ _ _ _ _ _ _ _ c.if-top-eq0.false c.requires.by_index.2).0
+bounds-narrow-p c = (cell_in _ _ _ _ _ _ _ _ c.if-top-eq0.false c.requires.2).0
 
 pub returns-then-narrow-p-ne1 : goal.returns-then-narrow-p-ne1
 returns-then-narrow-p-ne1 c = λ hs s R. ready_skip _ _ hs s _ _ _ _ (ready_suc c.args.at.top c.if-top-eq0.false R) c.if-narrow-p-ne1.true
 
 pub bounds-wide-p : goal.bounds-wide-p
-bounds-wide-p c = (cell_in _ _ _ _ _ _ _ _ c.if-top-eq0.false c.requires.by_index.2).1
+bounds-wide-p c = (cell_in _ _ _ _ _ _ _ _ c.if-top-eq0.false c.requires.2).1
 
 pub overflow_add-wide : goal.overflow_add-wide
-overflow_add-wide c = omega (arith, (stack_in _ _ _ _ _ _ _ _ c.if-top-eq0.false c.requires.by_index.2 (omega arith)).0)
+overflow_add-wide c = omega (arith, (stack_in _ _ _ _ _ _ _ _ c.if-top-eq0.false c.requires.2 (omega arith)).0)
 
 pub offset_bounds-wide-c : goal.offset_bounds-wide-c
-offset_bounds-wide-c c = omega (arith, (stack_in _ _ _ _ _ _ _ _ c.if-top-eq0.false c.requires.by_index.2 (omega arith)).0)
+offset_bounds-wide-c c = omega (arith, (stack_in _ _ _ _ _ _ _ _ c.if-top-eq0.false c.requires.2 (omega arith)).0)
 
 pub bounds-wide-c : goal.bounds-wide-c
-bounds-wide-c c = (stack_in _ _ _ _ _ _ _ _ c.if-top-eq0.false c.requires.by_index.2 (omega arith)).0
+bounds-wide-c c = (stack_in _ _ _ _ _ _ _ _ c.if-top-eq0.false c.requires.2 (omega arith)).0
 
 pub overflow_add-narrow-2 : goal.overflow_add-narrow-2
-overflow_add-narrow-2 c = omega (arith, (stack_in _ _ _ _ _ _ _ _ c.if-top-eq0.false c.requires.by_index.2 (omega arith)).1)
+overflow_add-narrow-2 c = omega (arith, (stack_in _ _ _ _ _ _ _ _ c.if-top-eq0.false c.requires.2 (omega arith)).1)
 
 pub offset_bounds-narrow-c-2 : goal.offset_bounds-narrow-c-2
-offset_bounds-narrow-c-2 c = omega (arith, (stack_in _ _ _ _ _ _ _ _ c.if-top-eq0.false c.requires.by_index.2 (omega arith)).1)
+offset_bounds-narrow-c-2 c = omega (arith, (stack_in _ _ _ _ _ _ _ _ c.if-top-eq0.false c.requires.2 (omega arith)).1)
 
 pub bounds-narrow-c-2 : goal.bounds-narrow-c-2
-bounds-narrow-c-2 c = (stack_in _ _ _ _ _ _ _ _ c.if-top-eq0.false c.requires.by_index.2 (omega arith)).1
+bounds-narrow-c-2 c = (stack_in _ _ _ _ _ _ _ _ c.if-top-eq0.false c.requires.2 (omega arith)).1
 
 pub change-requires : goal.change-requires
-change-requires c = let R = given _ _ _ _ _ _ _ _ c.if-top-eq0.false c.requires.by_index.2 in
+change-requires c = let R = given _ _ _ _ _ _ _ _ c.if-top-eq0.false c.requires.2 in
     let u = cells_under _ _ _ _ _ _ _ _ R (omega arith) _ c.positions-four.ensures in (
       (λ v z. u v (let z' = rw length-set at z in omega (arith, R.narrow_room))),
       λ v z. u v (let z' = rw length-set at z in omega (arith, R.wide_room)),
@@ -76,19 +76,19 @@ change-requires c = let R = given _ _ _ _ _ _ _ _ c.if-top-eq0.false c.requires.
 
 pub queue_cells-u-requires : goal.queue_cells-u-requires
 queue_cells-u-requires c = let g = c in
-    let R = given _ _ _ _ _ _ _ _ c.if-top-eq0.false c.requires.by_index.2 in
+    let R = given _ _ _ _ _ _ _ _ c.if-top-eq0.false c.requires.2 in
     let e : get_or c.args.narrow.now (get_or c.args.narrow.now (c.args.g.cells + (c.args.at.top - 1)) 0) 0 ≡ 1 = omega arith in
     let p = c.positions-four.ensures in
     let small : (v : ℕ) → get_or c.args.narrow.now v 0 < 2 ^ 32 = search rules in
     let k = c.change.ensures in (
-      omega (arith, whole_small g.args.g g.requires.graph_whole),
+      omega (arith, whole_small g.args.g),
       omega (arith, R.narrow_room, narrow_length _ _ _ _ _ _ _ _ R e _ p small _ _ k.0 k.1),
       cells_under _ _ _ _ _ _ _ _ R e _ p,
       room_queue _ _ _ _ _ _ _ _ R e _ p small _ _ k.0 k.1,
     )
 
 pub overflow_add-result : goal.overflow_add-result
-overflow_add-result c = omega (arith, (stack_in _ _ _ _ _ _ _ _ c.if-top-eq0.false c.requires.by_index.2 (omega arith)).0)
+overflow_add-result c = omega (arith, (stack_in _ _ _ _ _ _ _ _ c.if-top-eq0.false c.requires.2 (omega arith)).0)
 
 pub returns : goal.returns
 returns c = λ hs s R.

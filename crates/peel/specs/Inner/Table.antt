@@ -2,10 +2,14 @@
 -- The u64 part holds [xors c | hashes peeled n], the u32 part [degrees c | queue c | cells peeled n]: queue and peeled grow from the front.
 use Rattle.std.specs.Prelude.{◌≡◌, ℕ, zero, suc, ◌+◌, ◌%◌, ◌^◌, ◌<◌, ◌≤◌, List, [], ◌∷◌, length, ◌==◌, bit_xor, slice_index, slice_set}
 use Rattle.laws.specs.Count.{keep, occurs}
-use Rattle.fuse.specs.Positions.{FitsCells}
-use Rattle.peel.specs.declared.Graph.{Graph}
+use Rattle.fuse.specs.Positions.{positions_of}
+use Rattle.peel.specs.declared.graph.Graph.{Graph}
 use Rattle.peel.specs.Peel.{Peel, Attempt, lying, degree}
 use Rattle.peel.specs.Inner.Sound.{Placed, Sound}
+
+-- the four cells of a hash
+abbrev pub cells_of : Graph → ℕ → List ℕ
+cells_of g = positions_of g.segments.segment g.segments.count
 
 -- the xor of a list of hashes
 unfoldable pub xors : List ℕ → ℕ
@@ -64,7 +68,3 @@ pub record StandsFor (pos : ℕ → List ℕ) (c : ℕ) (hs : List ℕ) (s : Att
 -- the cells ps are below c
 abbrev pub Below : ℕ → List ℕ → Type 0
 Below c ps = (v : ℕ) → c ≤ v → occurs v ps ≡ 0
-
--- sizes that belong together
-abbrev pub GraphWhole : Graph → Type 0
-GraphWhole g = FitsCells g.segment g.count g.cells

@@ -2,12 +2,15 @@
 -- measure of the text's length.
 use Rattle.std.specs.Prelude.{ℕ, ◌+◌, ◌^◌, ◌<◌, ◌≡◌, List, length}
 use Rattle.std.proofs.lemmas.List.Edits.{sets}
+use Rattle.text.specs.declared.Writer.{Writer}
 
 -- the text from `at` on ends at a place that can be named
 pub record Ends (at : ℕ) (text : List ℕ) : Type 0 where
   pub inside : at + length text < 2 ^ 64
 
--- the buffer after the text was put from `at` on, what lies past the buffer's end being left out, and the place after the text
-pub record WrittenAt (before : List ℕ) (at : ℕ) (text after : List ℕ) (end : ℕ) : Type 0 where
-  pub buffer : after ≡ sets before at text
-  pub place : end ≡ at + length text
+-- the writer after it put the text from its place on: the same buffer, what lies past the buffer's end being left out, and the place after
+-- the text
+pub record Wrote (before : Writer) (text : List ℕ) (after : Writer) : Type 0 where
+  pub same : after.out.ghost_name ≡ before.out.ghost_name
+  pub buffer : after.out.now ≡ sets before.out.now before.at text
+  pub place : after.at ≡ before.at + length text

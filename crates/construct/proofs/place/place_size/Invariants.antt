@@ -7,4 +7,4 @@ use Rattle.construct.specs.Inner.Layout.{held}
 use Rattle.construct.proofs.place.place_size.Given as goal
 
 abbrev pub invariant-loop-k : goal.invariant-loop-k
-invariant-loop-k l = steps (place_of l.keys.hashes.now l.s) l.k (held l.initial.pilots l.initial.slots) ≡ some (held l.pilots l.slots)
+invariant-loop-k l = steps (place_of l.buckets.hashes.now l.s) l.k (held l.initial.pilots l.initial.slots) ≡ some (held l.pilots l.slots)

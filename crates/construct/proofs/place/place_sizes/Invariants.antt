@@ -9,4 +9,4 @@ use Rattle.construct.proofs.place.place_sizes.Given as goal
 
 abbrev pub invariant-loop-s : goal.invariant-loop-s
 invariant-loop-s l =
-    (0 < l.s) × (steps (place_down l.keys.hashes.now l.top) (l.top - l.s) (held l.initial.pilots l.initial.slots) ≡ some (held l.pilots l.slots))
+    (0 < l.s) × (steps (place_down l.buckets.hashes.now l.top) (l.top - l.s) (held l.initial.pilots l.initial.slots) ≡ some (held l.pilots l.slots))

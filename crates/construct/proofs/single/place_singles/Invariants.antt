@@ -11,5 +11,5 @@ use Rattle.construct.proofs.single.place_singles.Given as goal
 
 abbrev pub invariant-loop-k : goal.invariant-loop-k
 invariant-loop-k l =
-    (steps (place_of l.keys.hashes.now 1) l.k (held l.initial.pilots l.initial.slots) ≡ some (held l.pilots l.slots))
+    (steps (place_of l.buckets.hashes.now 1) l.k (held l.initial.pilots l.initial.slots) ≡ some (held l.pilots l.slots))
     × (l.from ≤ length l.slots) × FilledBelow l.slots l.from

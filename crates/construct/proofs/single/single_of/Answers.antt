@@ -12,7 +12,7 @@ returns-then-size-ne1 c = (c.requires.filled.0, of_skips _ _ _ _ (λ e. c.if-siz
 
 pub returns-in_err-at : goal.returns-in_err-at
 returns-in_err-at c =
-    rw c.from_residual.ensures (single_none _ (group c.args.keys.hashes.now c.args.k) _ _ _ refl (sym c.size.ensures ∙ c.if-size-ne1.false) c.requires.ready.slots_long c.in_err-at.ensures)
+    rw c.from_residual.ensures (single_none _ (group c.args.buckets.hashes.now c.args.k) _ _ _ refl (sym c.size.ensures ∙ c.if-size-ne1.false) c.requires.ready.slots_long c.in_err-at.ensures)
 
 pub bounds-group-0 : goal.bounds-group-0
 unfolding size

@@ -11,16 +11,16 @@ use Rattle.kiban_c.proofs.builder_calls.kiban_add.Goals as goal
 
 pub returns-then-answer-lt1 : goal.returns-then-answer-lt1
 returns-then-answer-lt1 c = let a = c.args in
-    add_refused (add_short a.state.now a.kind a.answer.now c.if-answer-lt1.true) (omega arith)
+    rw c.number.ensures (add_refused (add_short a.state.now a.kind a.answer.now c.if-answer-lt1.true) (omega arith))
 
 pub returns-then-state-lt3 : goal.returns-then-state-lt3
 returns-then-state-lt3 c = let a = c.args in
-    add_refused (add_stateless a.state.now a.kind a.answer.now c.if-answer-lt1.false c.if-state-lt3.true) (omega arith)
+    rw c.number-then-state-lt3.ensures (add_refused (add_stateless a.state.now a.kind a.answer.now c.if-answer-lt1.false c.if-state-lt3.true) (omega arith))
 
 pub returns-in_default : goal.returns-in_default
 returns-in_default c = let a = c.args in
     let k = kind_unknown a.kind (sym c.in_default.ensures) in
-    add_refused (add_kindless a.state.now a.kind a.answer.now c.if-answer-lt1.false c.if-state-lt3.false k) (omega arith)
+    rw c.number-in_default.ensures (add_refused (add_kindless a.state.now a.kind a.answer.now c.if-answer-lt1.false c.if-state-lt3.false k) (omega arith))
 
 pub returns-in-Ok : goal.returns-in-Ok
 returns-in-Ok c = let a = c.args in
@@ -34,4 +34,4 @@ pub returns-in-Err : goal.returns-in-Err
 returns-in-Err c = let a = c.args in
     let k = kind_known a.kind c.in-Some.known (sym c.in-Some.ensures) in
     let n = c.in-Err in
-    rw c.number.ensures (add_made {r = Err n.refusal} (add_passed a.state.now a.kind a.answer.now c.if-answer-lt1.false c.if-state-lt3.false k.0) c.state_of-from.ensures (sym k.1) n.ensures refl (sym (splice_none _ 0)) (sym (splice_none _ 0)))
+    rw c.number-in-Err.ensures (add_made {r = Err n.refusal} (add_passed a.state.now a.kind a.answer.now c.if-answer-lt1.false c.if-state-lt3.false k.0) c.state_of-from.ensures (sym k.1) n.ensures refl (sym (splice_none _ 0)) (sym (splice_none _ 0)))

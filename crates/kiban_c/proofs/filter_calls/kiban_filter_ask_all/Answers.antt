@@ -3,7 +3,6 @@ use Prim.Native.Nat.{ℕ}
 use native.Mathlib.Omega.{arith}
 use mathlib.Core.Path.{sym, ap, ◌∙◌}
 use mathlib.Core.List.{List, map}
-use lib.Seq.{length-take-le}
 use Rattle.words.specs.Field.{splice}
 use Rattle.filter.proofs.AskLaws.{cells_part}
 use Rattle.kiban_c.specs.Inner.Asking.{cells_ask_of}
@@ -11,10 +10,7 @@ use Rattle.kiban_c.proofs.FilterCallLaws.{fuse_cells, all_refused, all_unread, a
 use Rattle.kiban_c.proofs.filter_calls.kiban_filter_ask_all.Goals as goal
 
 pub returns-then-answers-hashes : goal.returns-then-answers-hashes
-returns-then-answers-hashes c = all_refused c.if-answers-hashes.true
-
-pub slice_bounds-fill-end-in-Positive : goal.slice_bounds-fill-end-in-Positive
-slice_bounds-fill-end-in-Positive c = sym (length-take-le _ _ c.if-answers-hashes.false)
+returns-then-answers-hashes c = rw c.number.ensures (all_refused c.if-answers-hashes.true)
 
 pub slice_bounds-ask_each-count : goal.slice_bounds-ask_each-count
 slice_bounds-ask_each-count c = let z = c.in-Fuse in
@@ -35,4 +31,4 @@ returns-in-Fuse c = let a = c.args in
     (c.ask_each.ensures ∙ ap (λ (l : List ℕ). splice a.answers.now 0 (map (cells_ask_of z.s l) a.hashes.now)) cells)
 
 pub returns-in-Refused : goal.returns-in-Refused
-returns-in-Refused c = all_unread c.if-answers-hashes.false (sym c.in-Refused.ensures)
+returns-in-Refused c = rw c.number-in-Refused.ensures (all_unread c.if-answers-hashes.false (sym c.in-Refused.ensures))

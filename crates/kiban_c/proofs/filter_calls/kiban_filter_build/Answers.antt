@@ -10,7 +10,7 @@ use Rattle.kiban_c.proofs.FilterCallLaws.{build_refused, build_made, cells_small
 use Rattle.kiban_c.proofs.filter_calls.kiban_filter_build.Goals as goal
 
 pub returns-then-answer-lt1 : goal.returns-then-answer-lt1
-returns-then-answer-lt1 c = build_refused c.if-answer-lt1.true
+returns-then-answer-lt1 c = rw c.number.ensures (build_refused c.if-answer-lt1.true)
 
 pub overflow_mul-answer : goal.overflow_mul-answer
 overflow_mul-answer c = let z = c.in-Ok-Fuse in omega (arith, cells_small z.ensures z.s (ap Ok z.field-0-is))
@@ -29,4 +29,4 @@ returns-in-Ok-Fuse c = let some = c.if-answer-lt1.false in
 
 pub returns-in-Err : goal.returns-in-Err
 returns-in-Err c = let n = c.in-Err in
-    rw c.number.ensures (build_made {r = Err n.refusal} c.if-answer-lt1.false n.ensures refl (sym (splice_none _ 0)))
+    rw c.number-in-Err.ensures (build_made {r = Err n.refusal} c.if-answer-lt1.false n.ensures refl (sym (splice_none _ 0)))

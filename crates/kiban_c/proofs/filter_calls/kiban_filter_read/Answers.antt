@@ -14,7 +14,7 @@ overflow_sub-cells c = let z = c.in-Fuse in
     omega (arith, (fuse_cells c.args.bytes.now z.s (sym z.ensures)).0)
 
 pub returns-then-answer-lt6 : goal.returns-then-answer-lt6
-returns-then-answer-lt6 c = read_refused c.if-answer-lt6.true
+returns-then-answer-lt6 c = rw c.number.ensures (read_refused c.if-answer-lt6.true)
 
 pub returns-in-Positive : goal.returns-in-Positive
 returns-in-Positive c = read_made {r = Positive} (omega arith) c.in-Positive.ensures refl c.put_words.ensures
@@ -28,4 +28,4 @@ returns-in-Fuse c = let a = c.args in
     (c.put_words-in-Fuse.ensures ∙ ap (λ (n : ℕ). splice a.answer.now 0 (1 ∷ s.keys ∷ s.seed ∷ s.segment ∷ s.count ∷ n ∷ [])) cells)
 
 pub returns-in-Refused : goal.returns-in-Refused
-returns-in-Refused c = read_made {r = Refused} (omega arith) c.in-Refused.ensures refl (sym (splice_none _ 0))
+returns-in-Refused c = rw c.number-in-Refused.ensures (read_made {r = Refused} (omega arith) c.in-Refused.ensures refl (sym (splice_none _ 0)))

@@ -9,7 +9,7 @@ use Rattle.kiban_c.proofs.PointCallLaws.{get_refused, get_made}
 use Rattle.kiban_c.proofs.point_calls.kiban_get.Goals as goal
 
 pub returns-then-answer-lt4 : goal.returns-then-answer-lt4
-returns-then-answer-lt4 c = get_refused c.if-answer-lt4.true
+returns-then-answer-lt4 c = rw c.number.ensures (get_refused c.if-answer-lt4.true)
 
 pub returns-in-Found : goal.returns-in-Found
 returns-in-Found c = let answer = c.args.answer.now in
@@ -23,4 +23,4 @@ returns-in-Nothing c = get_made {r = Nothing} c.if-answer-lt4.false c.in-Nothing
 
 pub returns-in-Refused : goal.returns-in-Refused
 returns-in-Refused c = let n = c.in-Refused in
-    rw c.number.ensures (get_made {r = Refused n.refusal} c.if-answer-lt4.false n.ensures c.limit_given.ensures refl (sym (splice_none _ 0)))
+    rw c.number-in-Refused.ensures (get_made {r = Refused n.refusal} c.if-answer-lt4.false n.ensures c.limit_given.ensures refl (sym (splice_none _ 0)))

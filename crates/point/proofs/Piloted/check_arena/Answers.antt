@@ -25,9 +25,6 @@ loop-init c = let s = c.args.self.now in
       rw (sub-zero s.headed.header.keys) (arena_start_lem _ _ _ _ e (keys_are _ s.headed.read)),
     )
 
-pub check_entry-requires : goal.check_entry-requires
-check_entry-requires c = c.loop.invariant.0
-
 pub returns-in_err-check_entry : goal.returns-in_err-check_entry
 returns-in_err-check_entry c = let l = c.loop in
     let a = c.args in

@@ -5,18 +5,6 @@ use mathlib.Core.Path.{◌≡◌}
 use Rattle.records.specs.Places.{key_length, key_at}
 use Rattle.records.proofs.cursor.key_at.Goals as goal
 
-pub overflow_add-to : goal.overflow_add-to
-overflow_add-to c = omega arith
-
-pub slice_bounds-result-count : goal.slice_bounds-result-count
-slice_bounds-result-count c = omega arith
-
-pub slice_bounds-result-start : goal.slice_bounds-result-start
-slice_bounds-result-start c = omega arith
-
-pub slice_bounds-result-end : goal.slice_bounds-result-end
-slice_bounds-result-end c = omega arith
-
 pub returns : goal.returns
 unfolding key_at
 returns c = let s = c.args in

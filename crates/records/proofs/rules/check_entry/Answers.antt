@@ -5,9 +5,6 @@ use Rattle.records.specs.Rules.{unslotted, entry_refusal}
 use Rattle.records.proofs.RuleLaws.{keyed, entry_versions}
 use Rattle.records.proofs.rules.check_entry.Goals as goal
 
-pub check_key-requires : goal.check_key-requires
-check_key-requires c = c.requires
-
 pub returns-in_err-check_key : goal.returns-in_err-check_key
 unfolding entry_refusal
 returns-in_err-check_key c =

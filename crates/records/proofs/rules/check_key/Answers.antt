@@ -1,11 +1,6 @@
 -- `check_key` gives the number of the first rule of a key that is broken. Assumes nothing.
-use Prim.Native.Nat.{◌≤◌}
-use mathlib.Core.Path.{◌≡◌, sym, ◌∙◌}
-use mathlib.Core.Logic.{⊎_elim}
+use mathlib.Core.Path.{sym, ◌∙◌}
 use native.Mathlib.Omega.{arith}
-use lib.ListN.{length}
-use Rattle.laws.proofs.Cases.{eq_or_ne}
-use Rattle.records.specs.Places.{first_version}
 use Rattle.records.proofs.RuleLaws.{key_short, key_long, key_out, key_none, key_falls, key_passes}
 use Rattle.records.proofs.rules.check_key.Goals as goal
 
@@ -24,13 +19,6 @@ returns-then-bytes-p c = let a = c.args in
 pub returns-then-u32_at-eq0 : goal.returns-then-u32_at-eq0
 returns-then-u32_at-eq0 c = let a = c.args in
     key_none a.bytes.now a.prev a.p (omega arith) (omega arith) (omega arith) (omega arith)
-
-pub key_rises-requires : goal.key_rises-requires
-key_rises-requires c = let a = c.args in
-    let h : first_version a.bytes.now a.p ≤ length a.bytes.now = omega arith in
-    ⊎_elim (λ (e : a.prev ≡ a.p). record { before = rw e h; here = h })
-    (λ (n : a.prev ≡ a.p → ⊥). record { before = c.requires.before n; here = h })
-    (eq_or_ne a.prev a.p)
 
 pub returns-then-key_rises : goal.returns-then-key_rises
 returns-then-key_rises c = let a = c.args in

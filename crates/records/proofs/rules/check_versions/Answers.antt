@@ -1,28 +1,15 @@
 -- `check_versions` refuses by `versions_refusal`: the versions from here on break what all of them break. Assumes nothing.
 use mathlib.Core.Path.{sym, ap, ◌∙◌}
-use native.Mathlib.Nat.{sub-zero}
 use native.Mathlib.Omega.{arith}
 use Rattle.numbers.proofs.NumberLaws.{number_nonzero, passed_on}
 use Rattle.records.specs.Rules.{versions_refusal}
 use Rattle.records.proofs.RuleLaws.{versioned, versions_stop, versions_on, versions_end}
-use borrow.Author.Rules.{rules}
 use Rattle.records.proofs.rules.check_versions.Goals as goal
-
-pub loop-init : goal.loop-init
-loop-init c = (search rules, search rules, ap (versions_refusal _ _ _ _) (sub-zero _))
-
-pub check_version-requires : goal.check_version-requires
-check_version-requires c = record { here = search rules; before = search rules }
 
 pub returns-in_err-check_version : goal.returns-in_err-check_version
 returns-in_err-check_version c = let l = c.loop in
     passed_on _ _ _ c.from_residual.ensures.1
     (versions_stop _ _ l.prev l.at _ (omega arith) _ c.in_err-check_version.ensures (number_nonzero _) ∙ l.invariant.2)
-
-pub overflow_add-at : goal.overflow_add-at
-overflow_add-at c = let l = c.loop in
-    let v = versioned c.args.bytes.now c.args.test l.prev l.at (sym c.in_ok-check_version.ensures) in
-    omega arith
 
 pub loop-preserved : goal.loop-preserved
 loop-preserved c = let l = c.loop in

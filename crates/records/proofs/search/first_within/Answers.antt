@@ -3,7 +3,6 @@ use Rattle.std.specs.Prelude.{Some}
 use Prim.Native.Nat.{ℕ}
 use mathlib.Core.List.{List}
 use mathlib.Core.Path.{◌≡◌, refl, sym, ap, ◌∙◌}
-use native.Mathlib.Nat.{sub-zero}
 use native.Mathlib.Omega.{arith}
 use borrow.Author.Tests.{le-leb, lt-leb}
 use Rattle.words.specs.Field.{AllBytes}
@@ -20,9 +19,6 @@ use Rattle.records.proofs.search.first_within.Goals as goal
 whole : (bytes : List ℕ) (limit : Limit) (p count most : ℕ) → most ≡ limit_of limit → AllBytes bytes
     → first_within bytes (Some most) p count ≡ first_within bytes limit p count
 whole bytes limit p count most m b = ap (λ (n : ℕ). first_within bytes (Some n) p count) m ∙ sym (first_limit bytes limit p count b)
-
-pub loop-init : goal.loop-init
-loop-init c = ap (first_within _ _ _) (sub-zero _)
 
 pub returns-then-version-most : goal.returns-then-version-most
 unfolding within

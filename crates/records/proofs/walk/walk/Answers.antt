@@ -1,7 +1,6 @@
 -- `walk` is `walk_from` from the start with no slots: what the walk from here on finds, after the keys passed,
 -- is what the whole walk finds. Assumes nothing.
 use Prim.Native.Nat.{ℕ, ◌+◌, ◌-◌}
-use native.Mathlib.Nat.{sub-zero}
 use mathlib.Core.Path.{◌≡◌, refl, sym, ap, ap₂, ◌∙◌}
 use native.Mathlib.Omega.{arith}
 use Rattle.numbers.proofs.NumberLaws.{number_nonzero}
@@ -10,22 +9,12 @@ use Rattle.numbers.specs.Numbers.{number_of}
 use Rattle.records.specs.declared.Walked.{Walked}
 use Rattle.records.specs.Walk.{Walk, Finds, end_refusal, walk_from}
 use Rattle.records.proofs.RuleLaws.{entered}
-use Rattle.records.proofs.WalkLaws.{after, after_none, after_more, after_stop, walk_end, walk_stop, walk_on}
-use borrow.Author.Rules.{rules}
+use Rattle.records.proofs.WalkLaws.{after, after_more, after_stop, walk_end, walk_stop, walk_on}
 use Rattle.records.proofs.walk.walk.Goals as goal
 
 -- what is found where the walk is that one
 found : {w : Walked} {k : Walk} → record { keys = w.keys; end = w.end; rule = number_of w.rule } ≡ k → Finds w k
 found e = record { keys = ap (λ (x : Walk). x.keys) e; end = ap (λ (x : Walk). x.end) e; rule = ap (λ (x : Walk). x.rule) e }
-
-pub loop-keys-init : goal.loop-keys-init
-loop-keys-init c = (
-  record { here = search rules; before = λ n. absurd (n refl) },
-  after_none _ ∙ ap (walk_from unslotted _ _ 0 0) (sub-zero _),
-)
-
-pub check_entry-requires : goal.check_entry-requires
-check_entry-requires c = c.loop-keys.invariant.0
 
 pub returns-in-Err : goal.returns-in-Err
 returns-in-Err c = let a = c.args in
