@@ -4,7 +4,7 @@
 ghost use Rattle.std.specs.Prelude.{true, ◌≡◌, ◌≤◌, length};
 ghost use Rattle.words.specs.Field.{splice};
 ghost use Rattle.filter.specs.Reading.{read_of, front_of, acceptable};
-ghost use Rattle.filter.specs.Asking.{ask_cells_of, ask_of};
+ghost use Rattle.filter.specs.Asking.{ask_cells_of, ask_number, ask_of};
 ghost use Rattle.filter.specs.Writing.{WritePost};
 ghost use Rattle.filter.specs.Building.{BuildPost};
 
@@ -28,6 +28,19 @@ pub enum Asked {
     Absent,
     Maybe,
     Refused,
+}
+
+impl Asked {
+    // Its number: 0 absent, 1 maybe, 15.
+    pub fn number(self) -> u8
+        ensures { result ≡ ask_number self }
+    {
+        match self {
+            Asked::Absent => 0,
+            Asked::Maybe => 1,
+            Asked::Refused => Refusal::Filter as u8,
+        }
+    }
 }
 
 // What building gives: Positive, or the sizes of the filter that was written.

@@ -39,13 +39,16 @@ pub fn put_positive(out: &mut [u8])
 pub fn fits(s: Sizes, cells: usize) -> bool
     ensures { result ≡ fitting s cells }
 {
-    1 <= s.keys
-        && s.keys <= Sizes::MAX_KEYS
-        && s.segment.count_ones() == 1
-        && s.segment <= Sizes::MAX_SEGMENT
-        && 1 <= s.count
-        && s.cells() <= Sizes::MAX_CELLS
-        && s.cells() == cells
+    if s.keys < 1 || Sizes::MAX_KEYS < s.keys {
+        return false;
+    }
+    if s.segment.count_ones() != 1 || Sizes::MAX_SEGMENT < s.segment {
+        return false;
+    }
+    if s.count < 1 || Sizes::MAX_CELLS < s.cells() {
+        return false;
+    }
+    s.cells() == cells
 }
 
 // Puts the header of a Fuse filter in front.

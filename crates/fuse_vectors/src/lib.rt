@@ -1,7 +1,7 @@
 // Replays the vectors of the filter's reading side: ops 04 positions, 05 sizing, 32 filter, 33 read and ask.
 #![tactic(auto)]
 
-use filter::{Asked, SstFilter};
+use filter::SstFilter;
 use fuse::{Sizes, header};
 use numbers::Refusal;
 use sizing::Plan;
@@ -69,15 +69,6 @@ fn read_number(bytes: &[u8]) -> u8 {
     }
 }
 
-// The number of the answer for a hash.
-fn ask_number(bytes: &[u8], hash: u64) -> u8 {
-    match filter::ask(bytes, hash) {
-        Asked::Absent => 0,
-        Asked::Maybe => 1,
-        Asked::Refused => Refusal::Filter.number(),
-    }
-}
-
 // u32 m, m u64 hashes -> u8 0 / 15, then m bytes: 0 absent, 1 maybe, 15.
 fn answers_agree(bytes: &[u8], p: &[u8]) -> bool {
     let m = vectors::u32_in(p, 0) as usize;
@@ -89,7 +80,8 @@ fn answers_agree(bytes: &[u8], p: &[u8]) -> bool {
         return false;
     }
     (0..m).all(|i| {
-        ask_number(bytes, vectors::u64_in(p, 4 + 8 * i)) == vectors::u8_in(p, number + 1 + i)
+        filter::ask(bytes, vectors::u64_in(p, 4 + 8 * i)).number()
+            == vectors::u8_in(p, number + 1 + i)
     })
 }
 

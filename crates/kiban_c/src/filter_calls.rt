@@ -1,12 +1,11 @@
 // The filter's calls: built, its bytes read, and asked for hashes.
 ghost use Rattle.std.specs.Prelude.{map, ◌≡◌, ◌≤◌, length};
 ghost use Rattle.words.specs.Field.{splice};
-ghost use Rattle.filter.specs.Asking.{ask_number};
 ghost use Rattle.kiban_c.specs.FilterCalls.{FilterBuildCall, FilterReadCall, filter_ask_of, FilterAskAllCall};
 ghost use Rattle.kiban_c.specs.Inner.Asking.{cells_ask_of};
 
 use super::lent::{number, put_words};
-use filter::{Asked, Built, SstFilter};
+use filter::{Built, SstFilter};
 use fuse::Sizes;
 use numbers::Refusal;
 
@@ -29,7 +28,7 @@ pub fn kiban_filter_build(
             0
         }
         Ok(Built::Fuse(s)) => {
-            answer[0] = Sizes::HEADER as u64 + (s.count as u64 + 3) * s.segment as u64;
+            answer[0] = (Sizes::HEADER + s.cells()) as u64;
             0
         }
         Err(refusal) => number(refusal),
@@ -58,22 +57,11 @@ pub fn kiban_filter_read(bytes: &[u8], answer: &mut [u64]) -> u64
     }
 }
 
-// The number of an answer.
-fn ask_number(answer: Asked) -> u8
-    ensures { result ≡ ask_number answer }
-{
-    match answer {
-        Asked::Absent => 0,
-        Asked::Maybe => 1,
-        Asked::Refused => Refusal::Filter.number(),
-    }
-}
-
 // Asks a filter for a hash: 0 absent, 1 maybe, 15.
 pub fn kiban_filter_ask(bytes: &[u8], hash: u64) -> u64
     ensures { result ≡ filter_ask_of bytes.now hash }
 {
-    ask_number(filter::ask(bytes, hash)) as u64
+    filter::ask(bytes, hash).number() as u64
 }
 
 // Puts a number for each hash in front: what a Fuse filter of these sizes answers beside its cells.
@@ -82,7 +70,7 @@ fn ask_each(s: Sizes, cells: &[u8], hashes: &[u64], answers: &mut [u8])
     ensures { answers.new ≡ splice answers.old 0 (map (cells_ask_of s cells.now) hashes.now) }
 {
     for i in 0..hashes.len() {
-        answers[i] = ask_number(filter::ask_cells(SstFilter::Fuse(s), cells, hashes[i]));
+        answers[i] = filter::ask_cells(SstFilter::Fuse(s), cells, hashes[i]).number();
     }
 }
 

@@ -8,9 +8,6 @@ use Rattle.layout.proofs.check_magic.Goals as goal
 pub returns-then-body-lt-BYTES : goal.returns-then-body-lt-BYTES
 returns-then-body-lt-BYTES c = sym (magic_short _ c.if-body-lt-BYTES.true)
 
-pub slice_bounds-same-end : goal.slice_bounds-same-end
-slice_bounds-same-end c = sym (length-take-le 8 c.args.body.now (omega arith))
-
 pub returns-then-same : goal.returns-then-same
 returns-then-same c = sym (magic_is _ _ (omega arith) (sym c.same.ensures ∙ c.if-same.true))
 

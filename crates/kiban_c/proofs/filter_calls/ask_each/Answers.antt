@@ -11,7 +11,7 @@ use Rattle.kiban_c.proofs.filter_calls.ask_each.Goals as goal
 pub loop-i-preserved : goal.loop-i-preserved
 loop-i-preserved c = let a = c.args in
     each_more (cells_ask_of a.s a.cells.now) a.hashes.now c.loop-i.invariant _ c.loop-i-test.true
-    (c.ask_number.ensures ∙ ap ask_number c.ask_cells.ensures)
+    (c.number.ensures ∙ ap ask_number c.ask_cells.ensures)
 
 pub returns : goal.returns
 returns c = let a = c.args in
