@@ -11,7 +11,7 @@ pub struct Buckets<'a> {
     pub hashes: &'a [u64],
     pub members: &'a [u64],
     pub starts: &'a [u32],
-    ghost bucketed: { Bucketed hashes.now members.now starts.now },
+    pub ghost bucketed: { Bucketed hashes.now members.now starts.now },
 }
 
 impl<'a> Buckets<'a> {

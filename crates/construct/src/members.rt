@@ -8,7 +8,7 @@ ghost use Rattle.construct.specs.Inner.Seating.{Keys};
 pub struct Members<'a> {
     pub hashes: &'a [u64],
     pub keys: &'a [u64],
-    ghost known: { Keys hashes.now keys.now },
+    pub ghost known: { Keys hashes.now keys.now },
 }
 
 impl<'a> Members<'a> {

@@ -1,5 +1,5 @@
 // Buckets placed one after another: each takes its pilot, and its members their slots.
-ghost use Rattle.std.specs.Prelude.{◌≡◌, ◌<◌, ◌-◌, length};
+ghost use Rattle.std.specs.Prelude.{◌<◌, ◌-◌, length};
 ghost use Rattle.laws.specs.Steps.{steps};
 ghost use Rattle.construct.specs.Construct.{place_group, place_of, place_size, place_down};
 ghost use Rattle.construct.specs.Inner.Layout.{Ready, Went, held};

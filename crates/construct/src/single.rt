@@ -1,5 +1,5 @@
 // Buckets of one member: each takes the lowest free slot.
-ghost use Rattle.std.specs.Prelude.{◌≡◌, ◌<◌, ◌≤◌, length};
+ghost use Rattle.std.specs.Prelude.{◌<◌, ◌≤◌, length};
 ghost use Rattle.construct.specs.Construct.{place_size};
 ghost use Rattle.construct.specs.Inner.Layout.{Ready, Went, FilledBelow, Lowest, SingleOf, held};
 

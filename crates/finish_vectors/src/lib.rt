@@ -1,7 +1,7 @@
 // Replays the vectors of finish: ops 18 finish, 19 finish of an arena that is made. Space is lent dirty, and what is left is tested.
 #![tactic(auto)]
 
-ghost use Rattle.std.specs.Prelude.{◌≡◌, ◌+◌, ◌*◌, ◌≤◌, length};
+ghost use Rattle.std.specs.Prelude.{◌+◌, ◌*◌, ◌≤◌, length};
 
 use numbers::Refusal;
 use records::Arena;

@@ -109,8 +109,3 @@ given_first (c ∷ cs) (each_more g e) = go c.holds (given_first cs e)
     go : (b : Bool) → Given (first_of cs) → Given (cond b c.number (first_of cs))
     go true h = g
     go false h = h
-
--- and so do two refusals
-pub given_or_else : (a b : ℕ) → Given a → Given b → Given (or_else a b)
-given_or_else zero b g h = h
-given_or_else (suc a) b g h = g

@@ -7,7 +7,7 @@ use mathlib.Core.List.{List}
 use mathlib.Core.Bool.{Bool, true, false, not, cond}
 use lib.ListN.{length}
 use lib.Dec.{ltb}
-use borrow.Author.Tests.{ltb-true, ltb-false, eqb-false, not-false, lt-ltb, le-ltb, eq-eqb, ne_eqb}
+use borrow.Author.Tests.{ltb-false, eqb-false, not-false, lt-ltb, le-ltb, eq-eqb, ne_eqb}
 use Rattle.laws.specs.Refusals.{First, None, Numbered}
 use Rattle.laws.proofs.RefusalLaws.{first_given, first_only, none_given, none_only}
 use Rattle.laws.specs.Refusals.None.{none_here, none_more}
@@ -20,14 +20,6 @@ use Rattle.records.specs.Limits.{DataLength}
 use Rattle.records.specs.Places.{key_length, version_count, key_at, first_version, next_entry, sequence_at, kind_at, length_at, offset_at}
 use Rattle.std.specs.Ordering.{is_lt}
 use Rattle.records.specs.Rules.{key_rises, key_causes, key_refusal, bad_kind, past_data, full_tombstone, sequence_falls, version_causes, version_refusal, versions_refusal, entry_versions_refusal, entry_refusal}
-
--- two tests of one sum
-pub ltb_less : (n a b : ℕ) → a ≤ n → ltb n (a + b) ≡ ltb (n - a) b
-ltb_less n a b h = go (ltb (n - a) b) refl
-  where
-    go : (t : Bool) → ltb (n - a) b ≡ t → ltb n (a + b) ≡ t
-    go true e = lt-ltb n (a + b) (omega (arith, ltb-true (n - a) b e))
-    go false e = le-ltb n (a + b) (omega (arith, ltb-false (n - a) b e))
 
 not_cond : (b : Bool) → cond {A = ℕ} b 0 29 ≡ cond (not b) 29 0
 not_cond true = refl

@@ -1,6 +1,6 @@
 -- The walk, an entry at a time. Assumes nothing.
 use Prim.Native.Nat.{ℕ, suc, ◌+◌, ◌-◌, ◌<◌, ◌≤◌}
-use native.Mathlib.Nat.{zero-add, add-zero, add-suc, suc-add}
+use native.Mathlib.Nat.{add-zero, add-suc, suc-add}
 use native.Mathlib.Numerals.{add-one}
 use native.Mathlib.Omega.{arith}
 use mathlib.Core.Path.{◌≡◌, sym, ap, ◌∙◌}
@@ -21,10 +21,6 @@ after n w = record { keys = n + w.keys; end = w.end; rule = w.rule }
 
 with_keys : Walk → ℕ → Walk
 with_keys w n = record { keys = n; end = w.end; rule = w.rule }
-
-pub after_none : (w : Walk) → after 0 w ≡ w
-unfolding with_keys
-after_none w = ap (with_keys w) (zero-add w.keys)
 
 pub after_more : (n : ℕ) (w : Walk) → after n (passed w) ≡ after (n + 1) w
 unfolding with_keys

@@ -1,6 +1,5 @@
 -- `magic_refusal` is 20 or 0 by its two tests. Assumes nothing.
 use mathlib.Core.Path.{sym, ◌∙◌}
-use lib.Seq.{length-take-le}
 use Rattle.layout.proofs.HeaderLaws.{magic_short, magic_is}
 use native.Mathlib.Omega.{arith}
 use Rattle.layout.proofs.check_magic.Goals as goal
