@@ -22,7 +22,7 @@ fn cells_for(n: usize) -> usize
     }
 }
 
-// Whether lent lengths are enough.
+// Refuses by 12, 9 or 6: too many hashes, and lent lengths that are not enough.
 #[tactic(auto, using(crate::proofs::BuildingLaws::cells_few), unfolding(crate::specs::Building::build_refusal))]
 pub fn check_lengths(n: usize, wide: usize, narrow: usize, out: usize) -> Result<(), Refusal>
     ensures { number_of result ≡ build_refusal n wide narrow out }

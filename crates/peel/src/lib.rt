@@ -20,9 +20,9 @@ fn change(narrow: &mut [u32], wide: &mut [u64], cells: &[usize], h: u64, by: u32
     requires { Below (length narrow.old) cells.now × Below (length wide.old) cells.now }
     ensures { (narrow.new ≡ changed (plus by) cells.now narrow.old) × (wide.new ≡ changed (bit_xor h) cells.now wide.old) }
 {
-    for p in cells {
-        narrow[*p] = by.wrapping_add(narrow[*p]);
-        wide[*p] = h ^ wide[*p];
+    for &p in cells {
+        narrow[p] = by.wrapping_add(narrow[p]);
+        wide[p] = h ^ wide[p];
     }
 }
 
@@ -59,8 +59,8 @@ fn queue_cells(narrow: &mut [u32], c: usize, top: usize, cells: &[usize]) -> usi
     ensures { Queued c (queued_by narrow.old cells.now (stack c top narrow.old)) result narrow.old narrow.new }
 {
     let mut t = top;
-    for p in cells {
-        t = note(narrow, c, t, *p);
+    for &p in cells {
+        t = note(narrow, c, t, p);
     }
     t
 }

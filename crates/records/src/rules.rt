@@ -18,7 +18,7 @@ fn key_rises(bytes: &[u8], prev: usize, p: usize) -> bool
     prev == p || part::compare(cursor::key_at(bytes, prev), cursor::key_at(bytes, p)).is_lt()
 }
 
-// The rule that the key at p breaks, after the entry at prev: 23 to 25.
+// Refuses by 23 to 25: the rule that the key at p breaks, after the entry at prev.
 pub fn check_key(bytes: &[u8], prev: usize, p: usize) -> Result<(), Refusal>
     requires { Walking bytes.now prev p }
     ensures { number_of result ≡ key_refusal bytes.now prev p }
@@ -74,7 +74,7 @@ fn sequence_falls(bytes: &[u8], prev: usize, p: usize) -> bool
     prev == p || field::u64_at(bytes, p) < field::u64_at(bytes, prev)
 }
 
-// The rule that the version at p breaks, after the one at prev: 27 to 29.
+// Refuses by 27 to 29: the rule that the version at p breaks, after the one at prev.
 pub fn check_version(bytes: &[u8], test: DataLength, prev: usize, p: usize) -> Result<(), Refusal>
     requires { Following bytes.now prev p }
     ensures { number_of result ≡ version_refusal bytes.now test prev p }
@@ -102,7 +102,7 @@ pub fn check_version(bytes: &[u8], test: DataLength, prev: usize, p: usize) -> R
     Err(Refusal::Value)
 }
 
-// The first rule that one of the count versions from p on breaks.
+// Refuses by the first rule that one of the count versions from p on breaks.
 pub fn check_versions(bytes: &[u8], test: DataLength, p: usize, count: u32) -> Result<(), Refusal>
     requires { p ≤ length bytes.now }
     ensures { number_of result ≡ versions_refusal bytes.now test p p count }
@@ -117,7 +117,7 @@ pub fn check_versions(bytes: &[u8], test: DataLength, p: usize, count: u32) -> R
     Ok(())
 }
 
-// The first rule that a version of the entry at p breaks.
+// Refuses by the first rule that a version of the entry at p breaks.
 pub fn check_entry_versions(bytes: &[u8], test: DataLength, p: usize) -> Result<(), Refusal>
     requires { first_version bytes.now p ≤ length bytes.now }
     ensures { number_of result ≡ entry_versions_refusal bytes.now test p }
@@ -126,7 +126,7 @@ pub fn check_entry_versions(bytes: &[u8], test: DataLength, p: usize) -> Result<
     check_versions(bytes, test, first, field::u32_at(bytes, p + 4))
 }
 
-// The rule that the entry at p breaks, after the one at prev: its key's, then its versions'.
+// Refuses by the rule that the entry at p breaks, after the one at prev: its key's, then its versions'.
 pub fn check_entry(bytes: &[u8], test: DataLength, prev: usize, p: usize) -> Result<(), Refusal>
     requires { Walking bytes.now prev p }
     ensures { number_of result ≡ entry_refusal unslotted bytes.now test prev p }
