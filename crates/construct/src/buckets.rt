@@ -15,6 +15,9 @@ pub struct Buckets<'a> {
 }
 
 impl<'a> Buckets<'a> {
+    // The seeds that are tried.
+    pub const ATTEMPTS: u64 = 8;
+
     // How many buckets there are.
     pub fn count(self) -> usize
         ensures { result ≡ buckets_of (length self.entry.hashes.now) }

@@ -18,10 +18,8 @@ ghost use Rattle.construct.specs.Inner.Layout.{Lent};
 ghost use Rattle.construct.specs.Answer.{ConstructPost};
 
 use attempt::attempt;
+use buckets::Buckets;
 use mixing::slot::buckets;
-
-// The seeds that are tried.
-pub const ATTEMPTS: u64 = 8;
 
 // Places the first n keys of the arena under the first seed that serves, and answers which attempt that is, from 0.
 // Its hashes, pilots and slots are left in the workspace.
@@ -30,7 +28,7 @@ pub fn construct(arena: &[u8], wide: &mut [u64], narrow: &mut [u32], n: usize) -
     ensures { ConstructPost (attempt_hashes arena.now n) n wide.new narrow.new result }
 {
     let b = buckets(n);
-    for i in 0..ATTEMPTS {
+    for i in 0..Buckets::ATTEMPTS {
         if attempt(arena, wide, narrow, n, b, mixing::seed(i)) {
             return Some(i);
         }

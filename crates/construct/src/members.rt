@@ -12,6 +12,9 @@ pub struct Members<'a> {
 }
 
 impl<'a> Members<'a> {
+    // The pilots that are tried for a bucket, from 0.
+    pub const TRIES: u32 = 100_000;
+
     // The hash of member j.
     pub fn hash(self, j: usize) -> u64
         requires { j < length self.keys.now }

@@ -6,9 +6,6 @@ ghost use Rattle.construct.specs.Inner.Seating.{SeatedTo, SeatTried, PilotSearch
 
 use super::members::Members;
 
-// The pilots that are tried for a bucket, from 0.
-pub const TRIES: u32 = 100_000;
-
 // Seats the members one after another until one finds its slot taken, and answers how many sit.
 fn seat_members(members: Members, slots: &mut [u32], pilot: u32) -> usize
     requires { length slots.old ≡ length members.hashes.now }
@@ -54,7 +51,7 @@ pub fn find_pilot(members: Members, slots: &mut [u32]) -> Option<u32>
     requires { length slots.old ≡ length members.hashes.now }
     ensures { PilotSearched members.entry.hashes.now members.entry.keys.now slots.old slots.new result }
 {
-    for p in 0..TRIES {
+    for p in 0..Members::TRIES {
         if try_pilot(members, slots, p) {
             return Some(p);
         }

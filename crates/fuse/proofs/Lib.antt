@@ -1,3 +1,4 @@
+pub mod Props
 pub mod PositionLaws
 pub mod AskLaws
 pub mod FitLaws

@@ -1,4 +1,3 @@
 pub mod Positions
 pub mod Asking
 pub mod Layout
-pub mod Props

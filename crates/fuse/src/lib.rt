@@ -3,7 +3,6 @@
 
 ghost use Rattle.std.specs.Prelude.{◌≡◌, ◌^◌, ◌<◌, length};
 ghost use Rattle.fuse.specs.Positions.{Usable, FitsCells, cells_in, cell_of, positions_of};
-ghost use Rattle.fuse.specs.Props.{usable_prop};
 ghost use Rattle.fuse.specs.Asking.{graph_hash, xor_at, contains_of};
 
 pub mod header;
@@ -52,7 +51,7 @@ impl Sizes {
 pub struct Segments {
     pub segment: usize,
     pub count: usize,
-    pub ghost usable: { Usable segment count } by { usable_prop segment count },
+    pub ghost usable: { ∥ Usable segment count ∥₁ },
 }
 
 impl Segments {

@@ -23,14 +23,20 @@ use std::marker::Model;
 use text::Writer;
 use words::field;
 
-// The bytes of an input before the body: u64 limit, u64 data length.
-pub const BODY: usize = 16;
+// What is listed: u64 limit, u64 data length, body.
+#[derive(Drop)]
+pub struct Input {}
 
-// The longest input.
-pub const MAX_INPUT: usize = 65_536;
+impl Input {
+    // The bytes before the body.
+    pub const BODY: usize = 16;
 
-// Room that suffices for every text.
-pub const ROOM: usize = 131_072;
+    // The longest input.
+    pub const MAX_INPUT: usize = 65_536;
+
+    // Room that suffices for every text.
+    pub const ROOM: usize = 131_072;
+}
 
 // Writes `put` or `tomb`, after a space.
 fn put_kind(out: &mut Writer, kind: Kind)
@@ -204,10 +210,10 @@ impl<'a> Table<'a> {
 fn check_input(input: &[u8]) -> Result<(), Refusal>
     ensures { number_of result ≡ listing_refusal input.now }
 {
-    if input.len() < BODY || MAX_INPUT < input.len() {
+    if input.len() < Input::BODY || Input::MAX_INPUT < input.len() {
         return Err(Refusal::Input);
     }
-    point::validate(&input[BODY..], field::u64_at(input, 8))
+    point::validate(&input[Input::BODY..], field::u64_at(input, 8))
 }
 
 // Lists an input: u64 limit, u64 data length, body.
@@ -217,7 +223,7 @@ pub fn listing(input: &[u8], out: &mut [u8]) -> Result<usize, Refusal>
     match check_input(input) {
         Ok(()) => {
             let table = Table {
-                body: &input[BODY..],
+                body: &input[Input::BODY..],
                 limit: field::u64_at(input, 0),
             };
             table.list(out)

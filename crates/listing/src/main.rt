@@ -15,13 +15,13 @@ fn print<R: Print + Eprint>(rt: &R, input: &[u8], out: &mut [u8]) {
 }
 
 fn main(rt: HostRuntime) {
-    let mut buf = [0u8; lines::MAX_INPUT + 1];
+    let mut buf = [0u8; lines::Input::MAX_INPUT + 1];
     let Ok(size) = input::read_whole(&mut rt.stdin(), &mut buf) else {
         let _ = eprintln!(rt;
             "listing: standard input could not be read to its end: nothing is listed"
         );
         return;
     };
-    let mut out = [0u8; lines::ROOM];
+    let mut out = [0u8; lines::Input::ROOM];
     print(&rt, &buf[..size], &mut out);
 }

@@ -9,6 +9,7 @@ use Rattle.peel.specs.declared.graph.Graph.{Graph}
 use Rattle.peel.specs.Peel.{mixed}
 use Rattle.peel.specs.Inner.Table.{cells_of}
 use Rattle.fuse.specs.Positions.{Usable, cells_in, cell_of, positions_of}
+use Rattle.fuse.proofs.Props.{usable_known}
 use Rattle.fuse.proofs.AskLaws.{graph_lt}
 use Rattle.fuse.proofs.PositionLaws.{cell_below, cell_apart, position_at, positions_length}
 use Rattle.peel.specs.Inner.Sound.{Placed}
@@ -30,10 +31,10 @@ positions_placed segment count h u b =
 
 -- a graph's sizes belong together: the number of cells fits 32 bits, and each mixed hash has its four cells
 pub whole_small : (g : Graph) → g.cells < 2 ^ 32
-whole_small g = rw g.whole g.segments.usable.small
+whole_small g = rw g.whole (usable_known _ _ g.segments.usable).small
 
 pub graph_placed : (g : Graph) → (seed hash h : ℕ) → h ≡ graph_hash seed hash → Placed g.cells (cells_of g) h
-graph_placed g seed hash h e = rw g.whole (positions_placed g.segments.segment g.segments.count h g.segments.usable (rw e (graph_lt seed hash)))
+graph_placed g seed hash h e = rw g.whole (positions_placed g.segments.segment g.segments.count h (usable_known _ _ g.segments.usable) (rw e (graph_lt seed hash)))
 
 pub mixed_placed : (segment count : ℕ) → Usable segment count → (seed : ℕ) (hashes : List ℕ) (h : ℕ) → 1 ≤ occurs h (mixed seed hashes)
     → Placed (cells_in segment count) (positions_of segment count) h
@@ -44,4 +45,4 @@ mixed_placed segment count u seed (x ∷ hashes) h k =
     (λ e. mixed_placed segment count u seed hashes h (omega (arith, occurs_other h (graph_hash seed x) (mixed seed hashes) (eqb-false h (graph_hash seed x) e))))
 
 pub whole_placed : (g : Graph) → (hashes : List ℕ) (h : ℕ) → 1 ≤ occurs h (mixed g.seed hashes) → Placed g.cells (cells_of g) h
-whole_placed g hashes h k = rw g.whole (mixed_placed g.segments.segment g.segments.count g.segments.usable g.seed hashes h k)
+whole_placed g hashes h k = rw g.whole (mixed_placed g.segments.segment g.segments.count (usable_known _ _ g.segments.usable) g.seed hashes h k)

@@ -132,6 +132,22 @@ pub fn open(body: &[u8], key: &[u8]) -> Opened
     }
 }
 
+// Refuses by 26: the slot of a hash names the place of its key, and holds its fingerprint, read as u32.
+fn check_slot_of(headed: &Headed<'_>, h: u64, p: usize) -> Result<(), Refusal>
+    requires { (direct_past (keys_in headed.now.body.now) (pilot_of headed.now.body.now h) ≡ false) × (arena_in headed.now.body.now ≤ p) }
+    ensures { number_of result ≡ slot_test headed.now.body.now h p }
+{
+    let body = headed.body;
+    let s = slot_of(headed, h);
+    if field::u64_at(body, s) != p as u64 - headed.header.arena {
+        return Err(Refusal::Slot);
+    }
+    if field::u32_at(body, s + 8) != mixing::fingerprint(h) as u32 {
+        return Err(Refusal::Slot);
+    }
+    Ok(())
+}
+
 // A body whose header and pilots passed: the walk over the arena reads it by this.
 #[derive(Clone, Copy)]
 struct Piloted<'a> {
@@ -154,29 +170,14 @@ impl<'a> Piloted<'a> {
         Ok(Piloted { headed })
     }
 
-    // Refuses by 26: the slot of a hash names the place of its key, and holds its fingerprint, read as u32.
-    fn check_slot_of(&self, h: u64, p: usize) -> Result<(), Refusal>
-        requires { arena_in self.now.headed.body.now ≤ p }
-        ensures { number_of result ≡ slot_test self.now.headed.body.now h p }
-    {
-        let body = self.headed.body;
-        let s = slot_of(&self.headed, h);
-        if field::u64_at(body, s) != p as u64 - self.headed.header.arena {
-            return Err(Refusal::Slot);
-        }
-        if field::u32_at(body, s + 8) != mixing::fingerprint(h) as u32 {
-            return Err(Refusal::Slot);
-        }
-        Ok(())
-    }
-
     // Refuses by 26, by the key at a place.
     fn check_slot(&self, p: usize) -> Result<(), Refusal>
         requires { Reached self.now.headed.body.now p }
         ensures { number_of result ≡ slot_refusal self.now.headed.body.now p }
     {
         let key = key_at(self.headed.body, p);
-        self.check_slot_of(mixing::hash(key, self.headed.header.seed), p)
+        let h = mixing::hash(key, self.headed.header.seed);
+        check_slot_of(&self.headed, h, p)
     }
 
     // Refuses by 23 to 29, by the entry at p after the one at prev: its key, its slot, its versions.

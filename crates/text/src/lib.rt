@@ -25,14 +25,19 @@ impl Writer<'_> {
         self.at += 1;
     }
 
-    // Writes bytes as they are.
+    // Writes bytes as they are, by a writer of this call's own, whose place no byte that is stored can change.
     pub fn put_word(&mut self, word: &[u8])
         requires { Ends self.old.at word.now }
         ensures { Wrote self.old word.now self.new }
     {
+        let mut front = Writer {
+            out: &mut *self.out,
+            at: self.at,
+        };
         for &b in word {
-            self.put_byte(b);
+            front.put_byte(b);
         }
+        self.at = front.at;
     }
 
     // Writes a number in decimal digits, laid down from the last one at the end of an array: 2^64 - 1 has 20.
@@ -52,15 +57,20 @@ impl Writer<'_> {
         self.put_word(&digits[from..]);
     }
 
-    // Writes bytes in lower-case hex.
+    // Writes bytes in lower-case hex, by a writer of this call's own, as `put_word` does.
     fn put_hex(&mut self, bytes: &[u8])
         requires { Ends self.old.at (hex_of bytes.now) }
         ensures { Wrote self.old (hex_of bytes.now) self.new }
     {
+        let mut front = Writer {
+            out: &mut *self.out,
+            at: self.at,
+        };
         for &b in bytes {
-            self.put_byte(hex_digit(b / 16));
-            self.put_byte(hex_digit(b % 16));
+            front.put_byte(hex_digit(b / 16));
+            front.put_byte(hex_digit(b % 16));
         }
+        self.at = front.at;
     }
 
     // Writes a key in lower-case hex, `-` if it is empty.

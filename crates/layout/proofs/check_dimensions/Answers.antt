@@ -1,4 +1,4 @@
--- `dimension_refusal` is 21 or 0, test by test. Assumes nothing.
+-- `check_dimensions` refuses by 21, test by test. Assumes nothing.
 use native.Mathlib.Omega.{arith}
 use borrow.Author.Tests.{le-leb, lt-leb, eq-eqb, ne_eqb}
 use Rattle.mixing.proofs.SlotLaws.{few_buckets}

@@ -1,4 +1,4 @@
--- `magic_refusal` is 20 or 0 by its two tests. Assumes nothing.
+-- `check_magic` refuses by 20, by its two tests. Assumes nothing.
 use mathlib.Core.Path.{sym, ◌∙◌}
 use Rattle.layout.proofs.HeaderLaws.{magic_short, magic_is}
 use native.Mathlib.Omega.{arith}

@@ -5,4 +5,4 @@ use Rattle.text.specs.Inner.Written.{Wrote}
 use Rattle.text.proofs.Writer.put_hex.Given as goal
 
 abbrev pub invariant-loop-b : goal.invariant-loop-b
-invariant-loop-b l = Wrote l.initial.self (hex_of (take l.b-index l.bytes)) l.self
+invariant-loop-b l = Wrote l.initial.front (hex_of (take l.b-index l.bytes)) l.front

@@ -4,4 +4,4 @@ use Rattle.text.specs.Inner.Written.{Wrote}
 use Rattle.text.proofs.Writer.put_word.Given as goal
 
 abbrev pub invariant-loop-b : goal.invariant-loop-b
-invariant-loop-b l = Wrote l.initial.self (take l.b-index l.word) l.self
+invariant-loop-b l = Wrote l.initial.front (take l.b-index l.word) l.front

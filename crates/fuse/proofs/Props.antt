@@ -1,8 +1,10 @@
--- That a segment and a count are usable has one proof at most, as a ghost field asks.
+-- That a segment and a count are usable has one proof at most, so the fact that `Segments` holds, which says no more than that there is a
+-- proof, gives it. Assumes nothing.
 use Rattle.std.specs.Prelude.{ℕ}
 use Rattle.std.proofs.Common.{arith, inl, inr}
 use Rattle.std.proofs.Props.{props}
 use Rattle.std.proofs.lemmas.Bool.{cases_order}
+use Rattle.std.proofs.Math.Logic.{∥∥₁_elim}
 use Rattle.std.proofs.Math.Pow.{pow-lt}
 use mathlib.Core.HLevel.{Σ_prop_path}
 use Rattle.laws.specs.Power.{PowerOfTwo}
@@ -17,5 +19,8 @@ power_prop s u v =
       | inr o ↦ elim o [ inl l ↦ absurd (omega (arith, u.1, v.1, pow-lt l)) | inr l ↦ absurd (omega (arith, u.1, v.1, pow-lt l)) ]
     ])
 
-pub usable_prop : (segment count : ℕ) → IsProp (Usable segment count)
+usable_prop : (segment count : ℕ) → IsProp (Usable segment count)
 usable_prop segment count = hlevel (props, power_prop segment)
+
+pub usable_known : (segment count : ℕ) → ∥ Usable segment count ∥₁ → Usable segment count
+usable_known segment count known = ∥∥₁_elim known (usable_prop segment count) (λ u. u)
